@@ -1,11 +1,13 @@
 -- Words and the numbers that they stand for.
-use Rattle.std.proofs.Common.{◌≡◌, ℕ, zero, suc, ◌+◌, ◌-◌, ◌*◌, ◌/◌, ◌%◌, ◌^◌, ◌<◌, ◌≤◌, Bool, true, false, List, [], ◌∷◌, length, nat_le, nat_eq, nat_lt, IsTrue, ◌↔◌, slice_set, replicate, length-set, if◌then◌else◌, refl, ap, arith, sym, subst, ◌∙◌}
+use Rattle.std.proofs.Common.{◌≡◌, ℕ, zero, suc, ◌+◌, ◌-◌, ◌*◌, ◌/◌, ◌%◌, ◌^◌, ◌<◌, ◌≤◌, Bool, true, false, List, [], ◌∷◌, length, nat_le, nat_eq, nat_lt, nat_cmp, cond, ◌==◌, IsTrue, ◌↔◌, slice_set, replicate, length-set, if◌then◌else◌, refl, ap, arith, sym, subst, ◌∙◌}
 use Rattle.std.proofs.Math.Nat.{two-pow-succ, pow-succ', add-mul-div_left, add-mul-mod_self_left, div-eq_of_lt}
 use Rattle.std.proofs.lemmas.Nat.{pow_pos, pow-add, div-mul-add}
 use Rattle.std.proofs.lemmas.Option.{unwrap_or-slice_get}
 use Rattle.std.proofs.lemmas.List.{set-get_or}
 use Rattle.std.proofs.lemmas.Bool.Decides.{nat_tests}
 use Rattle.std.proofs.lemmas.Bool.{leb-true, leb-false}
+use Rattle.std.specs.Ordering.{ordering_then, is_lt}
+use Rattle.std.specs.declared.cmp.Ordering.TheVariants.{Less, Equal, Greater}
 use Rattle.formulas.specs.Words.{word_of, number_of, truth_at, IsBefore, IsNext}
 
 word_size-at : (n b : ℕ) (t : Bool) → ((c : ℕ) → length (word_of n c) ≡ n) → length (if t then true ∷ word_of n (b - 2 ^ n) else false ∷ word_of n b) ≡ suc n
@@ -167,16 +169,24 @@ word_set_same v k t was = ap (λ x. slice_set v k x) (sym was ∙ unwrap_or-slic
 pub word_last : (n b : ℕ) → b < 2 ^ n → 2 ^ n ≤ b + 1 → word_of n b ≡ replicate (length (word_of n b)) true
 word_last n b h last = number_all_true (word_of n b) (let here : number_of (word_of n b) ≡ b = number_of_word n b h in omega (arith, ap (λ i. 2 ^ i) (word_size n b)))
 
-number_is : (n b : ℕ) (v : List Bool) → word_of n b ≡ v → b < 2 ^ n → number_of v ≡ b
-number_is n b v is h = ap number_of (sym is) ∙ number_of_word n b h
+-- by number and then by length, words of one length stand in the order of their numbers
+number_first : (b c m n : ℕ) → m ≡ n → is_lt (ordering_then (nat_cmp b c) (nat_cmp m n)) ≡ nat_lt b c
+number_first b c m n same =
+    elim (nat_lt b c) as (λ t. nat_lt b c ≡ t → is_lt (ordering_then (cond t Less (cond (b == c) Equal Greater)) (nat_cmp m n)) ≡ t) [
+      | true ↦ λ less. refl
+      | false ↦ λ less. elim (b == c) as (λ t. is_lt (ordering_then (cond t Equal Greater) (nat_cmp m n)) ≡ false) [
+        | true ↦ grind (arith, nat_tests)
+        | false ↦ refl
+      ]
+    ] refl
 
--- words of one length stand in the order of their numbers
-pub before_words : (v w : List Bool) (n b m c : ℕ) → word_of n b ≡ v → word_of m c ≡ w → length v ≡ length w → b < 2 ^ n → c < 2 ^ m → IsTrue (nat_lt b c) ↔ IsBefore v w
-before_words v w n b m c left right e h i =
-    let first : number_of v ≡ b = number_is n b v left h in
-    let second : number_of w ≡ c = number_is m c w right i in (
-      (λ t. lt_before v w e (let lt : b < c = grind (arith, nat_tests) in omega arith)),
-      (λ before. let lt : b < c = omega (arith, before_lt v w e before) in grind (arith, nat_tests)),
+-- the order of numbers is the order of words
+pub order_of_words : (v w : List Bool) (less : Bool) → length v ≡ length w →
+    less ≡ is_lt (ordering_then (nat_cmp (number_of v) (number_of w)) (nat_cmp (length v) (length w))) → IsTrue less ↔ IsBefore v w
+order_of_words v w less size is =
+    let numbers : less ≡ nat_lt (number_of v) (number_of w) = is ∙ number_first (number_of v) (number_of w) (length v) (length w) size in (
+      (λ t. lt_before v w size (grind (arith, nat_tests))),
+      (λ before. let lt : number_of v < number_of w = before_lt v w size before in grind (arith, nat_tests)),
     )
 
 pub next_word_at : (n b next : ℕ) (v : List Bool) → word_of n b ≡ v → next ≡ b + 1 → next < 2 ^ n → IsNext v (word_of n next)

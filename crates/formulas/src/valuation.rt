@@ -81,7 +81,7 @@ impl Valuation {
         requires { length self ≡ length other }
         ensures { IsTrue result ↔ IsBefore self other }
     {
-        self.bits < other.bits
+        self.cmp(&other).is_lt()
     }
 }
 

@@ -1,5 +1,7 @@
-use Rattle.formulas.specs.WordLaws.{before_words}
+use Rattle.std.proofs.Common.{ap, ◌∙◌}
+use Rattle.std.specs.Ordering.{is_lt}
+use Rattle.formulas.specs.WordLaws.{order_of_words}
 use Rattle.formulas.proofs.valuation.Valuation.is_before.Goals as goal
 
 pub returns : goal.returns
-returns c = before_words c.args.self c.args.other _ _ _ _ c.self.view_is c.other.view_is c.requires c.self.invariant.1 c.other.invariant.1
+returns c = order_of_words c.args.self c.args.other _ c.requires (c.is_lt.ensures ∙ ap is_lt c.cmp.ensures)
