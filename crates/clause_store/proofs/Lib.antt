@@ -1,0 +1,6 @@
+pub mod Each
+pub mod Lits
+pub mod Merges
+pub mod Cuts
+pub mod Truths
+pub mod Blocks

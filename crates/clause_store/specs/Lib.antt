@@ -1,0 +1,4 @@
+pub mod Lits
+pub mod Clauses
+pub mod Truth
+pub mod Extends

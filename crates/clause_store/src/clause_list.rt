@@ -1,0 +1,148 @@
+// A list of clauses in one flat list of literals.
+ghost use Rattle.std.specs.Prelude.{◌≡◌, ◌+◌, ◌*◌, ◌^◌, ◌<◌, ◌≤◌, [], ◌∷◌, ◌++◌, length, slice_get, Some, true, IfOk, OnOk, OnErr};
+ghost use Rattle.clause_store.specs.Lits.{Ascends, InRange, positive_lit, sorted_clause};
+ghost use Rattle.clause_store.specs.Clauses.{cut, Rise, start_at};
+
+use crate::clause::Clause;
+use crate::lit::Lit;
+use edge::NoMemory;
+use std::alloc::Global;
+use std::marker::Model;
+
+/// A list of clauses over the variables from 1 to a number. It grows at its end alone. Equal clauses may
+/// stand in it twice.
+#[derive(Drop)]
+pub struct ClauseList {
+    lits: Vec<Lit>,
+    ends: Vec<u32>,
+    vars: u32,
+}
+
+impl Model for ClauseList {
+    ghost use Rattle.std.specs.Prelude.{◌≡◌, ◌<◌, ◌≤◌, ◌^◌, length, vec_len};
+    ghost use Rattle.clause_store.specs.Clauses.{Clauses, cut, Rise, IsWhole};
+
+    ghost Value = { Clauses };
+
+    ghost view = { λ a. record { list = cut 0 a.ends.items a.lits.items; vars = a.vars } };
+
+    ghost invariant = { λ a. Rise 0 a.ends.items (length a.lits.items) × (length a.lits.items < 2 ^ 32) × (a.vars ≤ 2 ^ 31) × IsWhole (record { list = cut 0 a.ends.items a.lits.items; vars = a.vars }) };
+}
+
+impl ClauseList {
+    ghost use Rattle.clause_store.specs.Clauses.{Clauses, IsWhole};
+
+    /// No clauses over no variables.
+    pub fn new(alloc: Global) -> ClauseList
+        ensures { result ≡ record { list = []; vars = 0 } }
+    {
+        ClauseList {
+            lits: Vec::new(alloc),
+            ends: Vec::new(alloc),
+            vars: 0,
+        }
+    }
+
+    /// The number of clauses.
+    pub fn len(&self) -> u64
+        ensures len { result ≡ length self.now.list }
+        ensures whole { IsWhole self.now }
+    {
+        self.ends.len() as u64
+    }
+
+    /// The number of variables.
+    pub fn vars(&self) -> u32
+        ensures vars { result ≡ self.now.vars }
+        ensures few { result ≤ 2 ^ 31 }
+    {
+        self.vars
+    }
+
+    /// The positive literal of a further variable, the next one.
+    pub fn fresh(&mut self) -> Lit
+        requires { self.old.vars < 2 ^ 31 }
+        ensures lit { result ≡ positive_lit (self.old.vars + 1) }
+        ensures after { self.new ≡ record self.old { vars = self.old.vars + 1 } }
+    {
+        self.vars += 1;
+        Lit {
+            var: self.vars,
+            positive: true,
+        }
+    }
+
+    /// The literals of the clause of a number, from 0.
+    pub fn clause(&self, k: u64) -> &[Lit]
+        requires { k < length self.now.list }
+        ensures value { slice_get self.now.list k ≡ Some result.now }
+        ensures ascends { Ascends result.now }
+        ensures in_range { InRange self.now.vars result.now }
+    {
+        part(&self.lits, &self.ends, k as usize)
+    }
+
+    /// Appends the clause of these literals and answers its number. `NoMemory` also comes where the list would
+    /// hold 2^32 literals.
+    pub fn add(&mut self, lits: &[Lit]) -> Result<u64, NoMemory>
+        requires in_range { InRange self.old.vars lits.now }
+        ensures number { IfOk result (λ k. k ≡ length self.old.list) }
+        ensures ok { OnOk result (self.new ≡ record self.old { list = self.old.list ++ sorted_clause lits.now ∷ [] }) }
+        ensures err { OnErr result (self.new ≡ self.old) }
+    {
+        let clause = Clause::from_lits(*self.lits.allocator(), lits)?;
+        let number = self.add_clause(&clause)?;
+        Ok(number)
+    }
+
+    /// Appends a clause and answers its number. `NoMemory` also comes where the list would hold 2^32 literals.
+    pub fn add_clause(&mut self, clause: &Clause) -> Result<u64, NoMemory>
+        requires in_range { InRange self.old.vars clause.now }
+        ensures number { IfOk result (λ k. k ≡ length self.old.list) }
+        ensures ok { OnOk result (self.new ≡ record self.old { list = self.old.list ++ clause.now ∷ [] }) }
+        ensures err { OnErr result (self.new ≡ self.old) }
+    {
+        let number = self.add_sorted(clause.lits())?;
+        Ok(number)
+    }
+
+    // The place of the end is reserved first, so that nothing can fail once the literals stand.
+    fn add_sorted(&mut self, lits: &[Lit]) -> Result<u64, NoMemory>
+        requires ascends { Ascends lits.now }
+        requires in_range { InRange self.old.vars lits.now }
+        ensures number { IfOk result (λ k. k ≡ length self.old.list) }
+        ensures ok { OnOk result (self.new ≡ record self.old { list = self.old.list ++ lits.now ∷ [] }) }
+        ensures err { OnErr result (self.new ≡ self.old) }
+    {
+        let number = self.ends.len() as u64;
+        let Some(end) = self.lits.len().checked_add(lits.len()) else {
+            return Err(NoMemory);
+        };
+        if end > u32::MAX as usize {
+            return Err(NoMemory);
+        }
+        self.ends.reserve(1)?;
+        self.lits.extend_from_slice(lits)?;
+        self.ends.push(end as u32)?;
+        Ok(number)
+    }
+}
+
+// The literals of a clause.
+fn part<'a>(lits: &'a [Lit], ends: &[u32], k: usize) -> &'a [Lit]
+    requires rise { Rise 0 ends.now (length lits.now) }
+    requires within { k < length ends.now }
+    ensures { slice_get (cut 0 ends.now lits.now) k ≡ Some result.now }
+{
+    let from = start(ends, k) as usize;
+    let to = ends[k] as usize;
+    &lits[from..to]
+}
+
+// Where the clause begins.
+fn start(ends: &[u32], k: usize) -> u32
+    requires { k < length ends.now }
+    ensures { result ≡ start_at 0 ends.now k }
+{
+    if k == 0 { 0 } else { ends[k - 1] }
+}

@@ -1,0 +1,65 @@
+// A literal: a variable with a sign.
+ghost use Rattle.std.specs.Prelude.{◌≡◌, ℕ, ◌+◌, ◌*◌, ◌<◌, ◌≤◌, not, false};
+ghost use Rattle.std.proofs.Common.{rules};
+ghost use Rattle.std.specs.Cmp.{partial_order_from_own_ties};
+ghost use Rattle.std.specs.Cmp.Rules.{comparing};
+ghost use Rattle.std.specs.Ordering.{nat_cmp, bool_cmp, on, flip_args, then_cmp, as_partial_cmp};
+
+use std::cmp::Ordering;
+
+/// A variable with a sign. Variables count from 1; the calls that take literals require it.
+#[derive(Clone, Copy, Debug, Default, PartialEq, Eq)]
+pub struct Lit {
+    pub var: u32,
+    pub positive: bool,
+}
+
+// By variable, and of one variable the positive literal first.
+impl Ord for Lit {
+    ghost cmp = { then_cmp (on (λ l. l.var) nat_cmp) (flip_args (on (λ l. l.positive) bool_cmp)) };
+
+    ghost total = { Prim.search (comparing, rules) };
+
+    ghost matches_partial_cmp = { Prim.search (comparing, rules) };
+
+    ghost matches_eq = { Prim.search (comparing, rules) };
+
+    fn cmp(&self, other: &Lit) -> Ordering {
+        self.var
+            .cmp(&other.var)
+            .then(other.positive.cmp(&self.positive))
+    }
+}
+
+impl PartialOrd for Lit {
+    ghost partial_cmp = { as_partial_cmp (then_cmp (on (λ l. l.var) nat_cmp) (flip_args (on (λ l. l.positive) bool_cmp))) };
+
+    ghost laws = { partial_order_from_own_ties (Prim.search (comparing, rules)) (Prim.search (comparing, rules)) };
+
+    fn partial_cmp(&self, other: &Lit) -> Option<Ordering> {
+        Some(self.cmp(other))
+    }
+}
+
+impl Lit {
+    ghost use Rattle.clause_store.specs.Lits.{negated, rank_of};
+
+    /// A number that orders the literals: by variable, positive first.
+    #[inline]
+    pub fn rank(self) -> u64
+        ensures { result ≡ rank_of self }
+    {
+        2 * u64::from(self.var) + if self.positive { 0 } else { 1 }
+    }
+
+    /// The literal of the same variable with the other sign.
+    #[inline]
+    pub fn negated(self) -> Lit
+        ensures { result ≡ negated self }
+    {
+        Lit {
+            var: self.var,
+            positive: !self.positive,
+        }
+    }
+}
