@@ -1,0 +1,72 @@
+ghost use Rattle.std.specs.Prelude.{◌≡◌, ℕ, ◌≤◌, List, [], ◌≢◌, ◌++◌, length, All, replicate, IfOk};
+ghost use Rattle.std.specs.List.{AllZip};
+ghost use Rattle.std.specs.Cmp.Lexicographic.{slice_cmp};
+ghost use Rattle.std.specs.Ordering.{nat_cmp};
+ghost use Rattle.std.specs.List.Sorted.{IsPermutation};
+ghost use Rattle.ranks.specs.Ranks.{IsNoWorse};
+
+use edge::NoMemory;
+use std::alloc::Global;
+use std::cmp::Ordering;
+
+/// Which of two lists of distances is better.
+///
+/// Its meaning is `rank`, a list for each list of numbers, with one length for lists of one length.
+/// A list is no worse than another of its length where its rank is lexicographically at most the
+/// other's. The laws, below the methods, speak of lists that are not empty and whose entries are at
+/// most 4,096. `unordered`: a permutation keeps the rank. `monotone`: a list whose entries are
+/// each at most another's is no worse. `zero_least`: only the list of zeros is no worse than the list
+/// of zeros. `joined`: where two lists are each no worse than two others, they are so when joined.
+pub trait Aggregator {
+    ghost rank: { Self → List ℕ → List ℕ };
+
+    /// The lexicographic order of the ranks of two lists of one length, which have 1 to 64 entries of
+    /// at most 4,096. It takes no memory.
+    fn compare(&self, left: &[u32], right: &[u32]) -> Ordering
+        requires sized { length left.now ≡ length right.now }
+        requires some { 1 ≤ length left.now }
+        requires few { length left.now ≤ 64 }
+        requires left { All (λ k. k ≤ 4096) left.now }
+        requires right { All (λ k. k ≤ 4096) right.now }
+        ensures { result ≡ slice_cmp nat_cmp (rank self.now left.now) (rank self.now right.now) };
+
+    /// The rank of a list of 1 to 64 entries of at most 4,096; `NoMemory` for want of it.
+    fn rank_of(&self, alloc: Global, full: &[u32]) -> Result<Vec<u32>, NoMemory>
+        requires some { 1 ≤ length full.now }
+        requires few { length full.now ≤ 64 }
+        requires small { All (λ k. k ≤ 4096) full.now }
+        ensures { IfOk result (λ ranked. ranked.items ≡ rank self.now full.now) };
+
+    ghost sized: { (a : Self) (u w : List ℕ) → length u ≡ length w → length (rank a u) ≡ length (rank a w) };
+
+    ghost unordered: { (a : Self) (u w : List ℕ) → All (λ k. k ≤ 4096) u → u ≢ [] → IsPermutation u w → rank a u ≡ rank a w };
+
+    ghost monotone: { (a : Self) (u w : List ℕ) → All (λ k. k ≤ 4096) w → u ≢ [] → AllZip (λ j k. j ≤ k) u w → IsNoWorse (rank a) u w };
+
+    ghost zero_least: { (a : Self) (u : List ℕ) → All (λ k. k ≤ 4096) u → u ≢ [] → IsNoWorse (rank a) u (replicate (length u) 0) → u ≡ replicate (length u) 0 };
+
+    ghost joined: { (a : Self) (u w s t : List ℕ) → All (λ k. k ≤ 4096) (u ++ w ++ s ++ t) → u ≢ [] → s ≢ [] → length u ≡ length w → length s ≡ length t →
+        IsNoWorse (rank a) u w → IsNoWorse (rank a) s t → IsNoWorse (rank a) (u ++ s) (w ++ t) };
+}
+
+/// An aggregator by which a better part makes the joined list better. The law says it by its
+/// contraposition: where the joined lists tie, both parts do.
+pub trait StrictAggregator: Aggregator {
+    ghost strict: { (a : Self) (u w s t : List ℕ) → All (λ k. k ≤ 4096) (u ++ w ++ s ++ t) → u ≢ [] → s ≢ [] → length u ≡ length w → length s ≡ length t →
+        IsNoWorse (Self.rank a) u w → IsNoWorse (Self.rank a) s t → IsNoWorse (Self.rank a) (w ++ t) (u ++ s) →
+        IsNoWorse (Self.rank a) w u × IsNoWorse (Self.rank a) t s };
+}
+
+/// The rank of a list of 1 to 64 entries of at most 4,096; `NoMemory` for want of it.
+pub fn measure<A: Aggregator>(
+    alloc: Global,
+    aggregator: &A,
+    full: &[u32],
+) -> Result<Vec<u32>, NoMemory>
+    requires some { 1 ≤ length full.now }
+    requires few { length full.now ≤ 64 }
+    requires small { All (λ k. k ≤ 4096) full.now }
+    ensures { IfOk result (λ ranked. ranked.items ≡ A.rank aggregator.now full.now) }
+{
+    aggregator.rank_of(alloc, full)
+}

@@ -1,0 +1,23 @@
+//! Problems of belief merging and their answers, distances and aggregators with their laws, and
+//! the definitions of merging.
+#![tactic(auto)]
+
+mod agent;
+mod aggregator;
+mod answer;
+mod distance;
+mod maximum;
+mod operator;
+mod sequence;
+mod sorted;
+mod summed;
+
+pub use agent::Agent;
+pub use aggregator::{Aggregator, StrictAggregator, measure};
+pub use answer::{Answer, Shown, Verdict};
+pub use distance::{Distance, Drastic, Hamming};
+pub use maximum::Max;
+pub use operator::{AggregatorName, DistanceName};
+pub use sequence::Sequence;
+pub use sorted::Leximax;
+pub use summed::Sum;
