@@ -1,3 +1,4 @@
 pub mod Formulas
+pub mod Names
 pub mod WordLaws
 pub mod Words
