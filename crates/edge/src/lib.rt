@@ -1,6 +1,24 @@
 // The outside of the program: sources, sinks, the words of a command line, and want of memory.
 #![tactic(auto)]
 
+mod memory_sink;
+mod memory_source;
+mod null;
+mod plain;
 mod refused;
+mod sink;
+mod source;
+mod streams;
+#[cfg(test)]
+mod tests;
+mod words;
 
+pub use memory_sink::MemorySink;
+pub use memory_source::MemorySource;
+pub use null::NullSink;
+pub use plain::PlainSource;
 pub use refused::{Failed, NoMemory};
+pub use sink::{Sink, send_all};
+pub use source::{ReadStop, Source, read_all};
+pub use streams::{StdSink, StdSource};
+pub use words::Words;

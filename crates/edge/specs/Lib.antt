@@ -1,0 +1,5 @@
+pub mod Faults
+pub mod Held
+pub mod Piped
+pub mod Stored
+pub mod Streams
