@@ -1,2 +1,3 @@
 pub mod DistanceLaws
 pub mod Distances
+pub mod Merging
