@@ -4,3 +4,4 @@ pub mod Merges
 pub mod Cuts
 pub mod Truths
 pub mod Blocks
+pub mod Grows
