@@ -1,3 +1,5 @@
+pub mod Answers
 pub mod DistanceLaws
 pub mod Distances
+pub mod Limits
 pub mod Merging

@@ -1,0 +1,26 @@
+-- The limits on a problem. They are this project's own choice.
+use Rattle.std.specs.Prelude.{◌≡◌, ℕ, ◌+◌, ◌≤◌, List, length, map, sum_by, All, true}
+use Rattle.formulas.specs.declared.formula.Formula.{Formula}
+use Rattle.formulas.specs.Formulas.{nodes_of, depth_of, width_of}
+use Rattle.formulas.specs.Names.{are_names}
+use Rattle.merge_model.specs.declared.agent.Agent.{Agent}
+
+-- a formula over n atoms that is not too deep
+pub record IsWithin (n : ℕ) (formula : Formula) : Type 0 where
+  pub width : width_of formula ≤ n
+  pub depth : depth_of formula ≤ 128
+
+pub record KeepsLimits (atoms : List (List ℕ)) (constraint : Formula) (agents : List Agent) (asks : List Formula) : Type 0 where
+  pub some_atom : 1 ≤ length atoms
+  pub few_atoms : length atoms ≤ 32
+  pub some_agent : 1 ≤ length agents
+  pub few_agents : length agents ≤ 32
+  pub few_asks : length asks ≤ 16
+  pub each_counts : All (λ agent. 1 ≤ agent.times) agents
+  pub few_times : sum_by (λ agent. agent.times) agents ≤ 32
+  pub few_nodes : nodes_of constraint + sum_by (λ agent. nodes_of agent.base) agents + sum_by nodes_of asks ≤ 4096
+  pub constraint_within : IsWithin (length atoms) constraint
+  pub bases_within : All (λ agent. IsWithin (length atoms) agent.base) agents
+  pub asks_within : All (λ ask. IsWithin (length atoms) ask) asks
+  pub atom_names : are_names atoms ≡ true
+  pub agent_names : are_names (map (λ agent. agent.name) agents) ≡ true
