@@ -1,7 +1,8 @@
 -- Lemmas on logs.
-use Rattle.std.proofs.Common.{◌≡◌, ℕ, ◌+◌, ◌≤◌, true, false, List, [], ◌∷◌, ◌++◌, length, refl, ap, sym, ◌∙◌, rules, arith, cond, inl, inr, subst, Some, take, drop, append_assoc, length-drop}
-use Rattle.std.proofs.lemmas.List.{take-append-drop, take-append-le, drop-append-le}
+use Rattle.std.proofs.Common.{◌≡◌, ℕ, ◌+◌, ◌-◌, ◌<◌, ◌≤◌, true, false, List, [], ◌∷◌, ◌++◌, length, refl, ap, sym, ◌∙◌, rules, arith, cond, inl, inr, subst, zero, suc, Some, map, take, drop, append_assoc, length-drop, get_or}
+use Rattle.std.proofs.lemmas.List.{take-append-drop, take-append-le, drop-append-le, length-take-le}
 use Rattle.std.specs.Prelude.{slice_get}
+use Rattle.std.proofs.lemmas.Option.{slice_get_past}
 use Rattle.std.specs.List.{AllByRecursion}
 use Rattle.std.proofs.lemmas.Bool.{cases_Bool}
 use Rattle.clause_store.specs.declared.lit.Lit.{Lit}
@@ -9,7 +10,7 @@ use Rattle.clause_store.specs.Lits.{negated, resolvent, has, Includes}
 use Rattle.derivation_log.specs.declared.step.Link.{Link}
 use Rattle.derivation_log.specs.declared.step.Step.{Step}
 use Rattle.derivation_log.specs.declared.derivations.Row.{Row}
-use Rattle.derivation_log.specs.Logs.{Log, clauses_of, Comes, Follows, IsSound, is_learned, learned_of, IsNew}
+use Rattle.derivation_log.specs.Logs.{Log, clauses_of, known_of, Comes, Follows, IsSound, is_learned, learned_of, IsNew}
 use Rattle.derivation_log.specs.Rows.{steps_of}
 
 pub clauses-steps : (cs : List (List Lit)) (rows : List Row) → length cs ≡ length rows → clauses_of (steps_of cs rows) ≡ cs
@@ -64,3 +65,52 @@ view_push all m v rows c r h =
     let le : m ≤ length all = omega arith in
     log_eq (take-append-le m all (c ∷ []) le) refl
     (ap (λ (ds : List (List Lit)). steps_of ds (rows ++ r ∷ [])) (drop-append-le m all (c ∷ []) le) ∙ steps-push (drop m all) rows c r (omega (arith, length-drop m all)))
+
+-- the step of a place
+pub step_at : (cs : List (List Lit)) (rows : List Row) (k : ℕ) (c : List Lit) (r : Row) → k < length rows → slice_get cs k ≡ Some c → r ≡ get_or rows k r →
+    let step : Step = record { kind = r.kind; clause = c; first = r.first; chain = r.chain } in slice_get (steps_of cs rows) k ≡ Some step
+step_at cs [] k c r lt e f = absurd (omega arith)
+step_at [] (x ∷ xs) k c r lt e f = absurd (cc)
+step_at (d ∷ ds) (x ∷ xs) zero c r lt e f = let g : d ≡ c = cc in let h : x ≡ r = sym f in cc
+step_at (d ∷ ds) (x ∷ xs) (suc k) c r lt e f = step_at ds xs k c r (omega arith) e f
+
+pub kind_at : (cs : List (List Lit)) (rows : List Row) (k : ℕ) (r : Row) → length cs ≡ length rows → k < length rows → r ≡ get_or rows k r → slice_get (map (λ (s : Step). s.kind) (steps_of cs rows)) k ≡ Some r.kind
+kind_at cs [] k r h lt f = absurd (omega arith)
+kind_at [] (x ∷ xs) k r h lt f = absurd (omega arith)
+kind_at (d ∷ ds) (x ∷ xs) zero r h lt f = ap (λ (y : Row). Some y.kind) (sym f)
+kind_at (d ∷ ds) (x ∷ xs) (suc k) r h lt f = kind_at ds xs k r (omega arith) (omega arith) f
+
+get_dropped : (m : ℕ) (all : List (List Lit)) (n : ℕ) → m ≤ n → slice_get (drop m all) (n - m) ≡ slice_get all n
+get_dropped zero all n le = let e : n - 0 ≡ n = omega arith in ap (slice_get all) e
+get_dropped (suc m) [] n le = slice_get_past [] (n - suc m) (omega arith) ∙ sym (slice_get_past [] n (omega arith))
+get_dropped (suc m) (x ∷ xs) zero le = absurd (omega arith)
+get_dropped (suc m) (x ∷ xs) (suc n) le = let e : suc n - suc m ≡ n - m = omega arith in rw e (get_dropped m xs n (omega arith))
+
+-- what the view of a log in memory says of its numbers
+pub record Stands (g : Log) (all : List (List Lit)) (m : ℕ) (rows : List Row) : Type 0 where
+  pub main : length g.main ≡ m
+  pub known : length (known_of g) ≡ length all
+  pub steps : g.steps ≡ steps_of (drop m all) rows
+
+pub stands : (g : Log) (all : List (List Lit)) (m v : ℕ) (rows : List Row) → length all ≡ m + length rows → (let a : Log = record { main = take m all; vars = v; steps = steps_of (drop m all) rows } in a ≡ g) → Stands g all m rows
+stands g all m v rows h e = record {
+  main = sym (ap (λ (x : Log). length x.main) e) ∙ length-take-le m all (omega arith);
+  known = sym (ap (λ (x : Log). length (known_of x)) e) ∙ ap (λ (zs : List (List Lit)). length zs) (view_known all m rows h);
+  steps = sym (ap (λ (x : Log). x.steps) e);
+}
+
+-- the step and the kind of a number
+pub step_of_number : (g : Log) (all : List (List Lit)) (m : ℕ) (rows : List Row) (n : ℕ) (c : List Lit) (r : Row) → Stands g all m rows → length all ≡ m + length rows → length g.main ≤ n → n < length (known_of g) →
+    slice_get all n ≡ Some c → r ≡ get_or rows (n - m) r →
+    let step : Step = record { kind = r.kind; clause = c; first = r.first; chain = r.chain } in slice_get g.steps (n - length g.main) ≡ Some step
+step_of_number g all m rows n c r s h lo hi e f =
+    let p = s.main in let q = s.known in
+    ap (λ (k : ℕ). slice_get g.steps (n - k)) s.main ∙ ap (λ (ss : List Step). slice_get ss (n - m)) s.steps
+    ∙ step_at (drop m all) rows (n - m) c r (omega arith) (get_dropped m all n (omega arith) ∙ e) f
+
+pub kind_of_number : (g : Log) (all : List (List Lit)) (m : ℕ) (rows : List Row) (n : ℕ) (r : Row) → Stands g all m rows → length all ≡ m + length rows → length g.main ≤ n → n < length (known_of g) → r ≡ get_or rows (n - m) r →
+    slice_get (map (λ (s : Step). s.kind) g.steps) (n - length g.main) ≡ Some r.kind
+kind_of_number g all m rows n r s h lo hi f =
+    let p = s.main in let q = s.known in
+    ap (λ (k : ℕ). slice_get (map (λ (s : Step). s.kind) g.steps) (n - k)) s.main ∙ ap (λ (ss : List Step). slice_get (map (λ (s : Step). s.kind) ss) (n - m)) s.steps
+    ∙ kind_at (drop m all) rows (n - m) r (omega (arith, length-drop m all)) (omega arith) f

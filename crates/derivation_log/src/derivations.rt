@@ -1,5 +1,5 @@
 // A main list of clauses, and the steps that follow it.
-ghost use Rattle.std.specs.Prelude.{◌≡◌, ◌+◌, ◌<◌, ◌≤◌, [], ◌∷◌, ◌++◌, length, slice_get, Some, IfOk, OnOk, OnErr};
+ghost use Rattle.std.specs.Prelude.{◌≡◌, ◌+◌, ◌<◌, ◌≤◌, ◌-◌, map, [], ◌∷◌, ◌++◌, length, slice_get, Some, IfOk, OnOk, OnErr};
 ghost use Rattle.clause_store.specs.Clauses.{Clauses};
 ghost use Rattle.clause_store.specs.Lits.{InRange};
 ghost use Rattle.derivation_log.specs.Logs.{Log, known_of};
@@ -81,5 +81,31 @@ impl Derivations {
             chain: step.chain,
         })?;
         Ok(number)
+    }
+
+    /// The kind of the step of a number.
+    pub fn kind(&self, number: u64) -> StepKind
+        requires main { length self.now.main ≤ number }
+        requires known { number < length (known_of self.now) }
+        ensures { slice_get (map (λ s. s.kind) self.now.steps) (number - length self.now.main) ≡ Some result }
+    {
+        self.rows[(number - self.main) as usize].kind
+    }
+
+    /// The step of a number, copied.
+    pub fn step(&self, alloc: Global, number: u64) -> Result<Step, NoMemory>
+        requires main { length self.now.main ≤ number }
+        requires known { number < length (known_of self.now) }
+        ensures { IfOk result (λ step. slice_get self.now.steps (number - length self.now.main) ≡ Some step) }
+    {
+        let clause = Clause::from_sorted(alloc, self.known.clause(number))?;
+        let row = &self.rows[(number - self.main) as usize];
+        let links = row.chain.as_slice().to_vec(alloc)?;
+        Ok(Step {
+            kind: row.kind,
+            clause,
+            first: row.first,
+            chain: Chain::from_vec(links),
+        })
     }
 }
