@@ -1,7 +1,8 @@
 -- A word at the front of a text is its first token.
-use Rattle.std.proofs.Common.{◌≡◌, ℕ, ◌+◌, ◌≤◌, Bool, true, false, ◌||◌, not, List, [], ◌∷◌, take, drop, map, ◌++◌, append_assoc, slice_index, cond, if◌then◌else◌, refl, ap, sym, subst, nat_eq, ◌∙◌, arith, suc}
+use Rattle.std.proofs.Common.{◌≡◌, ℕ, ◌+◌, ◌≤◌, ◌<◌, Bool, true, false, ◌||◌, not, List, [], ◌∷◌, take, drop, map, ◌++◌, append_assoc, slice_index, cond, if◌then◌else◌, refl, ap, sym, subst, nat_eq, ◌∙◌, arith, suc, zero, lit<}
 use Rattle.std.specs.Cmp.Lexicographic.{same_text}
 use Rattle.std.specs.List.{list_any, prefix_len, starts_with}
+use Rattle.std.proofs.lemmas.Bool.Decides.{nat_tests}
 use Rattle.std.proofs.lemmas.List.{map-append, take-append-drop}
 use Rattle.std.proofs.lemmas.List.Sums.{prefix_len-le-length}
 use Rattle.line_tokens.specs.Bytes.{is_word_byte, is_blank, is_mark_byte, is_bad, starts_word}
@@ -82,3 +83,24 @@ both_arrow_first s h =
     let same = same_text (60 ∷ 45 ∷ 62 ∷ []) (take 3 s) h in
     let all : (60 ∷ 45 ∷ 62 ∷ []) ++ drop 3 s ≡ s = ap (λ w. w ++ drop 3 s) same ∙ take-append-drop 3 s in
     subst (λ (x : List ℕ). BeginsWith x both_arrow 3) all (both_arrow_before (drop 3 s))
+
+word_small : (b : ℕ) → is_word_byte b ≡ true → b < 128
+word_small b h = grind (arith, nat_tests)
+
+ascii_at : (b : ℕ) (w : List ℕ) (i : ℕ) → b < 128 → ((j : ℕ) → slice_index w j < 128) → slice_index (b ∷ w) i < 128
+ascii_at b w zero small rest = small
+ascii_at b w (suc i) small rest = rest i
+
+ascii_on : (b : ℕ) (s : List ℕ) (w : Bool) (i : ℕ) → is_word_byte b ≡ w → ((j : ℕ) → slice_index (take (word_size s) s) j < 128) →
+    slice_index (take (word_size (b ∷ s)) (b ∷ s)) i < 128
+ascii_on b s true i e rest =
+    let P : ℕ → Type 0 = λ n. slice_index (take n (b ∷ s)) i < 128 in
+    subst P (sym (one_more b s e)) (ascii_at b (take (word_size s) s) i (word_small b e) rest)
+ascii_on b s false i e rest =
+    let P : ℕ → Type 0 = λ n. slice_index (take n (b ∷ s)) i < 128 in
+    subst P (sym (stop (b ∷ s) e)) (lit< tt)
+
+-- a word is ASCII
+pub word_ascii : (s : List ℕ) (i : ℕ) → slice_index (take (word_size s) s) i < 128
+word_ascii [] i = lit< tt
+word_ascii (b ∷ s) i = ascii_on b s (is_word_byte b) i refl (word_ascii s)

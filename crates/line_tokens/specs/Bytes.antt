@@ -1,9 +1,10 @@
 -- The kinds of bytes of a line.
-use Rattle.std.specs.Prelude.{ℕ, Bool, false, List, [], ◌∷◌, nat_le, ◌==◌, ◌&&◌, ◌||◌, not}
+use Rattle.std.specs.Prelude.{ℕ, Bool, false, List, [], ◌∷◌, ◌==◌, ◌||◌, not}
+use Rattle.std.specs.Char.{is_ascii_alphanumeric}
 
 -- a letter, a digit or `_`
 abbrev pub is_word_byte : ℕ → Bool
-is_word_byte b = (nat_le 97 b && nat_le b 122) || (nat_le 65 b && nat_le b 90) || (nat_le 48 b && nat_le b 57) || b == 95
+is_word_byte b = is_ascii_alphanumeric b || b == 95
 
 -- a space, a tab or a carriage return
 abbrev pub is_blank : ℕ → Bool

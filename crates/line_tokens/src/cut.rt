@@ -1,4 +1,4 @@
-ghost use Rattle.std.specs.Prelude.{◌≡◌, ◌<◌, ◌≤◌, ◌↔◌, length, map, take, true, false, IfOk, IfSome, IsNone, MatchOption, IsTrue, slice_index};
+ghost use Rattle.std.specs.Prelude.{◌≡◌, ◌<◌, ◌≤◌, ◌↔◌, length, map, take, drop, true, false, IfOk, IfSome, IsNone, MatchOption, IsTrue, slice_index};
 ghost use Rattle.std.specs.List.{list_any, prefix_len};
 ghost use Rattle.line_tokens.specs.Bytes.{is_word_byte, is_blank, is_bad};
 ghost use Rattle.line_tokens.specs.Lexemes.{lexeme_of, lexemes_of};
@@ -25,6 +25,18 @@ fn word_length(text: &[u8]) -> usize
     ensures { result ≡ prefix_len is_word_byte text.now }
 {
     text.iter().take_while(|byte| is_word_byte(**byte)).count()
+}
+
+/// The word at the front and the text after it.
+fn split_word(text: &[u8]) -> (&str, &[u8])
+    ensures word { result.0.now ≡ take (prefix_len is_word_byte text.now) text.now }
+    ensures rest { result.1.now ≡ drop (prefix_len is_word_byte text.now) text.now }
+{
+    let (word, rest) = text.split_at(word_length(text));
+    match str::from_utf8(word) {
+        Ok(word) => (word, rest),
+        Err(_) => unreachable!(),
+    }
 }
 
 /// The mark at the front and its number of bytes, or `None` where no mark is there.
@@ -57,7 +69,7 @@ pub fn tokens(alloc: Global, text: &[u8]) -> Result<Option<Vec<Token>>, NoMemory
     let mut rest = text;
     while !rest.is_empty() {
         if is_word_byte(rest[0]) {
-            let (word, after) = rest.split_at(word_length(rest));
+            let (word, after) = split_word(rest);
             found.push(Token::Word(word))?;
             rest = after;
         } else if is_blank(rest[0]) {
@@ -86,11 +98,11 @@ mod tests {
         let rows: [(&[u8], &str); 4] = [
             (
                 b"a1<->!b_\t",
-                "[Word([97, 49]), BothArrow, Bang, Word([98, 95])]",
+                "[Word(\"a1\"), BothArrow, Bang, Word(\"b_\")]",
             ),
             (
                 b"(x:9)&|->",
-                "[Open, Word([120]), Colon, Word([57]), Close, Ampersand, Bar, Arrow]",
+                "[Open, Word(\"x\"), Colon, Word(\"9\"), Close, Ampersand, Bar, Arrow]",
             ),
             (
                 b"<- > --><->>",

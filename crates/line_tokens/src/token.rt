@@ -20,5 +20,5 @@ pub enum Token<'a> {
     /// A `<`, `-` or `>` that is no part of an arrow.
     Stray,
     /// A longest run of letters, digits and `_`.
-    Word(&'a [u8]),
+    Word(&'a str),
 }
