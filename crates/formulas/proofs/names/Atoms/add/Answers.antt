@@ -1,4 +1,4 @@
-use Rattle.std.proofs.Common.{ℕ, ◌≡◌, ◌≤◌, ◌+◌, true, List, ◌∷◌, [], ◌++◌, map, length, sym, ap, ◌∙◌, string_bytes, arith, subst}
+use Rattle.std.proofs.Common.{◌≡◌, ◌+◌, true, ◌∷◌, [], ◌++◌, map, length, sym, ap, ◌∙◌, string_bytes, arith}
 use Rattle.std.proofs.lemmas.List.{length-map, length-append}
 use Rattle.formulas.specs.Names.{are_names}
 use Rattle.formulas.proofs.NameViews.{keys_added, names_added}

@@ -1,4 +1,4 @@
-use Rattle.std.proofs.Common.{string_bytes, sym, ◌∙◌}
+use Rattle.std.proofs.Common.{string_bytes, sym}
 use Rattle.std.specs.Str.{bytes_eq}
 use Rattle.formulas.proofs.NameViews.{position-map, list_any-map}
 use Rattle.formulas.proofs.names.Atoms.number_of.Goals as goal
