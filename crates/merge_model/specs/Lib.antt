@@ -3,3 +3,4 @@ pub mod DistanceLaws
 pub mod Distances
 pub mod Limits
 pub mod Merging
+pub mod Plain

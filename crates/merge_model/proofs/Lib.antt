@@ -1,0 +1,4 @@
+pub mod Among
+pub mod Best
+pub mod Nearest
+pub mod Words
