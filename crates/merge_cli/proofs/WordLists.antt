@@ -1,0 +1,10 @@
+-- A list of words from its length and its places.
+use Rattle.std.proofs.Common.{◌≡◌, ℕ, List, [], ◌∷◌, length, arith}
+use Rattle.std.specs.Prelude.{slice_get, Some}
+
+pub three_words : (xs : List (List ℕ)) (a b c : List ℕ) → length xs ≡ 3 → slice_get xs 0 ≡ Some a → slice_get xs 1 ≡ Some b → slice_get xs 2 ≡ Some c → xs ≡ a ∷ b ∷ c ∷ []
+three_words (x ∷ y ∷ z ∷ []) a b c n p q r = cc
+three_words [] a b c n p q r = absurd (omega arith)
+three_words (x ∷ []) a b c n p q r = absurd (omega arith)
+three_words (x ∷ y ∷ []) a b c n p q r = absurd (omega arith)
+three_words (x ∷ y ∷ z ∷ w ∷ xs) a b c n p q r = absurd (omega arith)

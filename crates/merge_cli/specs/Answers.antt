@@ -1,0 +1,46 @@
+-- What a run answers to its words and to what it read, where nothing stops it.
+use Rattle.std.specs.Prelude.{◌≡◌, ℕ, List, [], codes, Option}
+use Rattle.edge.specs.Streams.{Gave}
+use Rattle.merge_cli.specs.declared.forms.Form.{Form}
+use Rattle.merge_cli.specs.declared.forms.Form.TheVariants.{Merge}
+use Rattle.merge_cli.specs.Forms.{IsFormOf, IsNoForm}
+use Rattle.merge_cli.specs.Merge.{MergeAnswers}
+
+-- A table of answers: what the source told before and tells now, what was read, the status and the text.
+abbrev pub Table : Type 1
+Table = Option (List ℕ) → Option (List ℕ) → List ℕ → ℕ → List ℕ → Type 0
+
+-- what a command answers
+abbrev pub CommandAnswers : Form → Table
+CommandAnswers (Merge distance aggregator) = MergeAnswers distance aggregator
+
+-- the command reads its source
+abbrev pub Reads : Form → Type 0
+Reads (Merge distance aggregator) = Unit {0}
+
+-- the command reads a problem text
+abbrev pub ReadsProblem : Form → Type 0
+ReadsProblem (Merge distance aggregator) = Unit {0}
+
+-- the words are those of a command that reads
+abbrev pub IsReading : List (List ℕ) → Type 0
+IsReading words = (form : Form) × IsFormOf words form × Reads form
+
+-- the words are those of no command that reads
+abbrev pub IsUnread : List (List ℕ) → Type 0
+IsUnread words = (form : Form) → IsFormOf words form → Reads form → ⊥
+
+-- the words are those of a command over a problem text
+abbrev pub IsProblemCommand : List (List ℕ) → Type 0
+IsProblemCommand words = (form : Form) × IsFormOf words form × ReadsProblem form
+
+-- the answers to any words
+pub data Answers (words : List (List ℕ)) (before now : Option (List ℕ)) (read : List ℕ) (status : ℕ) (text : List ℕ) : Type 0 where
+  refused_words : IsNoForm words → read ≡ [] → status ≡ 2 → text ≡ codes "refused words\n" → Answers words before now read status text
+  of_command : (form : Form) → IsFormOf words form → CommandAnswers form before now read status text → Answers words before now read status text
+
+-- the source gave some bytes, and the table has this status and this text for them
+pub record Answered (table : Table) (before now : Option (List ℕ)) (room_before room_now : ℕ) (status : ℕ) (text : List ℕ) : Type 0 where
+  pub read : List ℕ
+  pub gave : Gave before now room_before room_now read
+  pub answers : table before now read status text

@@ -1,0 +1,15 @@
+// The top call of the program: what the words of a command line ask, answered.
+#![tactic(auto)]
+
+mod exact;
+mod forms;
+mod merging;
+mod reply;
+pub mod status;
+#[cfg(test)]
+mod tests;
+mod top;
+
+pub use exact::{refused_words_are_exact, too_long_is_exact};
+pub use forms::{Form, form_of};
+pub use top::{Outcome, run};

@@ -1,0 +1,22 @@
+// How a run ends, as the exit status of the program.
+
+/// The text was answered.
+pub const ANSWERED: u8 = 0;
+
+/// The text was refused.
+pub const REFUSED: u8 = 1;
+
+/// The words are none of the forms.
+pub const REFUSED_WORDS: u8 = 2;
+
+/// A read failed.
+pub const READ_FAULT: u8 = 4;
+
+/// A write failed.
+pub const WRITE_FAULT: u8 = 5;
+
+/// Memory was refused.
+pub const NO_MEMORY: u8 = 6;
+
+/// The text is legal, and what it asks is not built yet.
+pub const NOT_BUILT: u8 = 9;

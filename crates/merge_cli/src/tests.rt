@@ -1,0 +1,61 @@
+use crate::run;
+use edge::{MemorySink, MemorySource, NullSink, PlainSource, Words};
+use std::alloc::Global;
+use std::test::Fail;
+
+const TEXT: &str = "atoms a\nconstraint !a\nagent p : a\nask !a\n";
+
+fn words_of(alloc: Global, text: &str) -> Result<Words, Fail> {
+    let mut words = Words::new(alloc);
+    for word in text.split_whitespace() {
+        words.push(word)?;
+    }
+    Ok(words)
+}
+
+#[test]
+fn answers_with_ample_memory(rt: HostRuntime) -> Result<(), Fail> {
+    let alloc = rt.alloc();
+    let rows = [
+        ("merge hamming sum", TEXT, 9, "refused: not built\n"),
+        ("merge hamming", TEXT, 2, "refused words\n"),
+        ("list hamming sum 0", TEXT, 2, "refused words\n"),
+        ("bench 01", "", 2, "refused words\n"),
+        ("", "", 2, "refused words\n"),
+    ];
+    for (words, bytes, status, text) in rows {
+        let mut source = PlainSource::new(Vec::from_slice(alloc, bytes.as_bytes())?);
+        let outcome = run(
+            alloc,
+            &words_of(alloc, words)?,
+            &mut source,
+            &mut NullSink::new(),
+        );
+        assert_eq!(rt; outcome.status, status, "{words}");
+        assert_eq!(rt; outcome.text.as_slice(), text.as_bytes(), "{words}");
+        assert_eq!(rt; outcome.sent, text.len(), "{words}");
+    }
+    for (length, status) in [(262_144, 9), (262_145, 1)] {
+        let mut source = PlainSource::new(vec![in alloc; b'#'; length]?);
+        let words = words_of(alloc, "merge hamming sum")?;
+        let outcome = run(alloc, &words, &mut source, &mut NullSink::new());
+        assert_eq!(rt; outcome.status, status, "{length} bytes");
+    }
+    Ok(())
+}
+
+#[test]
+fn names_a_failed_read_and_a_full_sink(rt: HostRuntime) -> Result<(), Fail> {
+    let alloc = rt.alloc();
+    // Which read fails, the status, how much is sent, and what the sink holds.
+    for (fail_at, status, sent, held) in [(2, 4, 0, ""), (0, 5, 10, "refused: n")] {
+        let mut source = MemorySource::new(Vec::from_slice(alloc, TEXT.as_bytes())?, 4, fail_at);
+        let mut sink = MemorySink::new(alloc, 10, 3)?;
+        let words = words_of(alloc, "merge hamming sum")?;
+        let outcome = run(alloc, &words, &mut source, &mut sink);
+        assert_eq!(rt; outcome.status, status);
+        assert_eq!(rt; outcome.sent, sent);
+        assert_eq!(rt; sink.as_slice(), held.as_bytes());
+    }
+    Ok(())
+}

@@ -1,0 +1,116 @@
+ghost use Rattle.std.specs.Prelude.{◌≡◌, ◌≢◌, ◌⊎◌, ℕ, ◌<◌, ◌≤◌, ◌-◌, ◌↔◌, [], length, take, codes, IfOk, IsErrOf};
+ghost use Rattle.std.specs.Io.KnownBytes.{Appends};
+ghost use Rattle.edge.specs.Faults.{Rose};
+ghost use Rattle.merge_cli.specs.Forms.{IsNoForm};
+ghost use Rattle.merge_cli.specs.Answers.{Answers, Answered, CommandAnswers, Reads, IsReading, IsUnread, IsProblemCommand};
+ghost use Rattle.merge_cli.specs.Merge.{most_bytes};
+
+use crate::forms::{Form, form_of};
+use crate::merging;
+use crate::reply::{Reply, Stop, says};
+use crate::status::{NO_MEMORY, READ_FAULT, REFUSED_WORDS, WRITE_FAULT};
+use edge::{Sink, Source, Words, send_all};
+use std::alloc::Global;
+
+/// How a run ended.
+#[derive(Debug, Drop)]
+pub struct Outcome {
+    /// One of the constants of `status`.
+    pub status: u8,
+    /// The text that was to be sent.
+    pub text: Vec<u8>,
+    /// How many bytes of the text the sink took.
+    pub sent: usize,
+}
+
+// What the form asks.
+fn command_reply<S: Source>(alloc: Global, form: Form, source: &mut S) -> Result<Reply, Stop>
+    ensures ok { IfOk result (λ reply. Answered (CommandAnswers form) (S.left source.old) (S.left source.new)
+        (S.room source.old) (S.room source.new) reply.status reply.text.items) }
+    ensures failed { IsErrOf result Stop.Failed → Reads form × Rose (S.faults source.old) (S.faults source.new) }
+    ensures faults { S.faults source.old ≤ S.faults source.new }
+    ensures unread { ¬ (Reads form) → source.new ≡ source.old }
+{
+    match form {
+        Form::Merge(distance, aggregator) => merging::merge(alloc, distance, aggregator, source),
+    }
+}
+
+// What the words ask.
+fn reply<S: Source>(alloc: Global, words: &Words, source: &mut S) -> Result<Reply, Stop>
+    ensures ok { IfOk result (λ reply. Answered (Answers words.now) (S.left source.old) (S.left source.new)
+        (S.room source.old) (S.room source.new) reply.status reply.text.items) }
+    ensures failed { IsErrOf result Stop.Failed → IsReading words.now × Rose (S.faults source.old) (S.faults source.new) }
+    ensures faults { S.faults source.old ≤ S.faults source.new }
+    ensures unread { IsUnread words.now → source.new ≡ source.old }
+{
+    match form_of(words) {
+        None => says(alloc, REFUSED_WORDS, b"refused words\n"),
+        Some(form) => command_reply(alloc, form, source),
+    }
+}
+
+/// Does all that the program does: answers what the words ask of the text in the source, and sends
+/// the answer to the sink. The statuses, in the order in which they are looked for:
+///
+/// - 2: the words are none of the forms; nothing is read.
+/// - 4: a read failed; there is no text and the sink is not called.
+/// - 1: the text is refused: it has more than 262,144 bytes.
+/// - 9: what the text asks is not built yet.
+/// - 5: a write failed; the sink took the first `sent` bytes of the text.
+/// - 6: memory was refused, at any place before the sending; there is no text and the sink is not called.
+pub fn run<S: Source, K: Sink>(
+    alloc: Global,
+    words: &Words,
+    source: &mut S,
+    sink: &mut K,
+) -> Outcome
+    ensures answered { result.status ≢ 4 → result.status ≢ 5 → result.status ≢ 6
+        → Answered (Answers words.now) (S.left source.old) (S.left source.new)
+        (S.room source.old) (S.room source.new) result.status result.text.items }
+
+    // At a fault of writing the text is that of another status, which this run had reached.
+    ensures unsent { result.status ≡ 5 → (wanted : ℕ) × Answered (Answers words.now) (S.left source.old) (S.left source.new)
+        (S.room source.old) (S.room source.new) wanted result.text.items }
+
+    // Refusals come exactly where they are due, but for a fault or want of memory.
+    ensures refused_words { result.status ≢ 5 → result.status ≢ 6 → (result.status ≡ 2) ↔ IsNoForm words.now }
+    ensures too_long { result.status ≢ 4 → result.status ≢ 5 → result.status ≢ 6
+        → ((result.status ≡ 1) × (result.text.items ≡ codes "refused: too long\n"))
+        ↔ (IsProblemCommand words.now × (most_bytes < S.room source.old - S.room source.new)) }
+
+    ensures read_fault { result.status ≡ 4 → IsReading words.now × Rose (S.faults source.old) (S.faults source.new) }
+    ensures write_fault { result.status ≡ 5 → (result.sent < length result.text.items) × Rose (K.faults sink.old) (K.faults sink.new) }
+    ensures stopped { (result.status ≡ 4) ⊎ (result.status ≡ 6) → (result.text.items ≡ []) × (sink.new ≡ sink.old) }
+
+    ensures sent { Appends (K.taken sink.old) (K.taken sink.new) (take result.sent result.text.items) }
+    ensures whole { result.status ≢ 5 → result.sent ≡ length result.text.items }
+
+    ensures unread { IsUnread words.now → source.new ≡ source.old }
+    ensures source_faults { S.faults source.old ≤ S.faults source.new }
+    ensures sink_faults { K.faults sink.old ≤ K.faults sink.new }
+{
+    match reply(alloc, words, source) {
+        Ok(Reply { status, text }) => match send_all(sink, text.as_slice()) {
+            Ok(()) => {
+                let sent = text.len();
+                Outcome { status, text, sent }
+            }
+            Err(sent) => Outcome {
+                status: WRITE_FAULT,
+                text,
+                sent,
+            },
+        },
+        Err(Stop::Failed) => Outcome {
+            status: READ_FAULT,
+            text: Vec::new(alloc),
+            sent: 0,
+        },
+        Err(Stop::NoMemory) => Outcome {
+            status: NO_MEMORY,
+            text: Vec::new(alloc),
+            sent: 0,
+        },
+    }
+}
