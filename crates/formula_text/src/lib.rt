@@ -1,0 +1,91 @@
+// Writes formulas in their canonical text.
+#![tactic(auto)]
+
+ghost use Rattle.std.specs.Prelude.{◌≡◌, ◌≤◌, ◌++◌, length, OnOk, OnErr};
+ghost use Rattle.formulas.specs.Formulas.{width_of};
+ghost use Rattle.formula_text.specs.CanonicalText.{formula_text, joined_text, GrowsWithin};
+
+use edge::NoMemory;
+use formulas::{Atoms, Formula};
+
+/// Appends the canonical text of a formula whose atoms are all there; on `NoMemory` what was
+/// appended is a part of it from its start.
+#[cycle(writing)]
+pub fn write_formula(formula: &Formula, atoms: &Atoms, into: &mut Vec<u8>) -> Result<(), NoMemory>
+    requires { width_of formula.now ≤ length atoms.now }
+    ensures written { OnOk result (into.new.items ≡ into.old.items ++ formula_text atoms.now formula.now) }
+    ensures partly { OnErr result (GrowsWithin into.old.items into.new.items (formula_text atoms.now formula.now)) }
+{
+    match formula {
+        Formula::Top => write_bytes(b"true", into),
+        Formula::Bottom => write_bytes(b"false", into),
+        Formula::Atom(atom) => write_bytes(atoms.name(*atom).as_bytes(), into),
+        Formula::Not(child) => {
+            write_bytes(b"!", into)?;
+            write_formula(child.get(), atoms, into)
+        }
+        Formula::And(left, right) => write_joined(left.get(), b" & ", right.get(), atoms, into),
+        Formula::Or(left, right) => write_joined(left.get(), b" | ", right.get(), atoms, into),
+        Formula::Implies(left, right) => write_joined(
+            left.get(),
+            b" -> ",
+            right.get(),
+            atoms,
+            into,
+        ),
+        Formula::Iff(left, right) => write_joined(left.get(), b" <-> ", right.get(), atoms, into),
+    }
+}
+
+/// Appends two formulas with a connective between them, in brackets.
+#[cycle(writing)]
+fn write_joined(
+    left: &Formula,
+    mark: &[u8],
+    right: &Formula,
+    atoms: &Atoms,
+    into: &mut Vec<u8>,
+) -> Result<(), NoMemory>
+    requires left { width_of left.now ≤ length atoms.now }
+    requires right { width_of right.now ≤ length atoms.now }
+    ensures written { OnOk result (into.new.items ≡ into.old.items ++ joined_text (formula_text atoms.now left.now) mark.now (formula_text atoms.now right.now)) }
+    ensures partly { OnErr result (GrowsWithin into.old.items into.new.items (joined_text (formula_text atoms.now left.now) mark.now (formula_text atoms.now right.now))) }
+{
+    write_bytes(b"(", into)?;
+    write_formula(left, atoms, into)?;
+    write_bytes(mark, into)?;
+    write_formula(right, atoms, into)?;
+    write_bytes(b")", into)
+}
+
+/// Appends the bytes; on `NoMemory` nothing was appended.
+pub fn write_bytes(bytes: &[u8], into: &mut Vec<u8>) -> Result<(), NoMemory>
+    ensures written { OnOk result (into.new.items ≡ into.old.items ++ bytes.now) }
+    ensures kept { OnErr result (into.new.items ≡ into.old.items) }
+{
+    into.extend_from_slice(bytes)?;
+    Ok(())
+}
+
+#[cfg(test)]
+mod tests {
+    use super::*;
+    use std::test::Fail;
+
+    #[test]
+    fn each_connective_is_written_in_brackets(rt: HostRuntime) -> Result<(), Fail> {
+        let alloc = rt.alloc();
+        let mut atoms = Atoms::new(alloc);
+        let dry = atoms.add("dry")?;
+        let either = Formula::disjunction(alloc, Formula::Atom(dry), Formula::Bottom)?;
+        let both = Formula::conjunction(alloc, either, Formula::Top)?;
+        let not_dry = Formula::negation(alloc, Formula::Atom(dry))?;
+        let implied = Formula::implication(alloc, not_dry, both)?;
+        let formula = Formula::equivalence(alloc, implied, Formula::Atom(dry))?;
+        let mut text = b"constraint ".to_vec(alloc)?;
+        write_formula(&formula, &atoms, &mut text)?;
+        let want = b"constraint ((!dry -> ((dry | false) & true)) <-> dry)";
+        assert_eq!(rt; text.as_slice(), want.as_slice());
+        Ok(())
+    }
+}
