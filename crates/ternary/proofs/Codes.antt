@@ -1,16 +1,15 @@
 -- Clauses are coded as numbers to the base 3, and distinct ones have distinct numbers.
-use Rattle.std.proofs.Common.{◌≡◌, ◌≢◌, ℕ, ◌+◌, ◌-◌, ◌*◌, ◌<◌, ◌≤◌, Bool, true, false, List, [], ◌∷◌, length, refl, ap, sym, ◌∙◌, rules, arith, cond, eqb, inl, inr, subst, zero, suc, get_or, map}
+use Rattle.std.proofs.Common.{◌≡◌, ◌≢◌, ℕ, ◌+◌, ◌*◌, ◌<◌, ◌≤◌, Bool, true, false, List, [], ◌∷◌, length, refl, sym, ◌∙◌, arith, cond, eqb, inl, inr, subst, zero, suc, get_or, map}
 use Rattle.std.specs.Prelude.{◌^◌, ◌||◌, ◌⊎◌, All, AllPairs}
-use Rattle.std.specs.List.{IsDistinct, list_any}
+use Rattle.std.specs.List.{list_any}
 use Rattle.std.proofs.Math.Nat.{pow-suc, one-le-pow}
-use Rattle.std.proofs.lemmas.Bool.{cases_eq, cases_Bool, false≢true}
+use Rattle.std.proofs.lemmas.Bool.{cases_eq}
 use Rattle.std.proofs.lemmas.Bool.Decides.{Decides-eqb}
 use Rattle.std.proofs.lemmas.List.{length-map, get_or-map}
 use Rattle.std.proofs.lemmas.List.Kept.{AllPairs-cons}
 use Rattle.std.proofs.lemmas.Map.Made.{IsDistinct-from_AllPairs}
 use Rattle.std.proofs.lemmas.Map.Steps.{length-le_from_distinct_below}
 use Rattle.clause_store.specs.declared.lit.Lit.{Lit}
-use Rattle.clause_store.specs.Lits.{rank_of}
 use Rattle.clause_store.proofs.Lits.{lit_ext}
 use Rattle.ternary.specs.Digits.{IsAbove, IsWithin, IsFamily, CountLaw}
 
@@ -59,15 +58,17 @@ above_weaker : (v : ℕ) (c : List Lit) → IsAbove v c → first v c ≡ 0 → 
 above_weaker v [] a f = tt
 above_weaker v (l ∷ ls) a f =
     elim (cases_eq l.var (suc v)) [
-      inl g ↦ (let t : eqb l.var (suc v) ≡ true = grind arith in absurd (omega (arith, sign_pos l.positive, rw t at f)))
-    | inr g ↦ (omega (arith, a.0), a.1) ]
+      | inl g ↦ (let t : eqb l.var (suc v) ≡ true = grind arith in absurd (omega (arith, sign_pos l.positive, rw t at f)))
+      | inr g ↦ (omega (arith, a.0), a.1)
+    ]
 
 rest_above : (v : ℕ) (c : List Lit) → IsAbove v c → IsAbove (suc v) (rest v c)
 rest_above v [] a = tt
 rest_above v (l ∷ ls) a =
     elim (cases_eq l.var (suc v)) [
-      inl g ↦ (let t : eqb l.var (suc v) ≡ true = grind arith in rw t (subst (λ (w : ℕ). IsAbove w ls) g a.1))
-    | inr g ↦ (let t : eqb l.var (suc v) ≡ false = grind arith in rw t (omega (arith, a.0), a.1)) ]
+      | inl g ↦ (let t : eqb l.var (suc v) ≡ true = grind arith in rw t (subst (λ (w : ℕ). IsAbove w ls) g a.1))
+      | inr g ↦ (let t : eqb l.var (suc v) ≡ false = grind arith in rw t (omega (arith, a.0), a.1))
+    ]
 
 rest_within : (V v : ℕ) (c : List Lit) → IsWithin V c → IsWithin V (rest v c)
 rest_within V v [] w = tt
@@ -78,25 +79,29 @@ rejoin : (v : ℕ) (c d : List Lit) → first v c ≡ first v d → rest v c ≡
 rejoin v [] [] f r = refl
 rejoin v [] (m ∷ ms) f r =
     elim (cases_eq m.var (suc v)) [
-      inl g ↦ (let t : eqb m.var (suc v) ≡ true = grind arith in absurd (omega (arith, sign_pos m.positive, rw t at f)))
-    | inr g ↦ (let t : eqb m.var (suc v) ≡ false = grind arith in rw t at r) ]
+      | inl g ↦ (let t : eqb m.var (suc v) ≡ true = grind arith in absurd (omega (arith, sign_pos m.positive, rw t at f)))
+      | inr g ↦ (let t : eqb m.var (suc v) ≡ false = grind arith in rw t at r)
+    ]
 rejoin v (l ∷ ls) [] f r =
     elim (cases_eq l.var (suc v)) [
-      inl g ↦ (let t : eqb l.var (suc v) ≡ true = grind arith in absurd (omega (arith, sign_pos l.positive, rw t at f)))
-    | inr g ↦ (let t : eqb l.var (suc v) ≡ false = grind arith in rw t at r) ]
+      | inl g ↦ (let t : eqb l.var (suc v) ≡ true = grind arith in absurd (omega (arith, sign_pos l.positive, rw t at f)))
+      | inr g ↦ (let t : eqb l.var (suc v) ≡ false = grind arith in rw t at r)
+    ]
 rejoin v (l ∷ ls) (m ∷ ms) f r =
     elim (cases_eq l.var (suc v)) [
-      inl g ↦ (let t : eqb l.var (suc v) ≡ true = grind arith in
-        elim (cases_eq m.var (suc v)) [
-          inl h ↦ (let u : eqb m.var (suc v) ≡ true = grind arith in
-                   let f' = rw (t, u) at f in
-                   let r' = rw (t, u) at r in
-                   let same : l ≡ m = lit_ext l m (g ∙ sym h) (sign_same l.positive m.positive f') in cc)
-        | inr h ↦ (let u : eqb m.var (suc v) ≡ false = grind arith in absurd (omega (arith, sign_pos l.positive, rw (t, u) at f))) ])
-    | inr g ↦ (let t : eqb l.var (suc v) ≡ false = grind arith in
-        elim (cases_eq m.var (suc v)) [
-          inl h ↦ (let u : eqb m.var (suc v) ≡ true = grind arith in absurd (omega (arith, sign_pos m.positive, rw (t, u) at f)))
-        | inr h ↦ (let u : eqb m.var (suc v) ≡ false = grind arith in rw (t, u) at r) ])
+      | inl g ↦ (let t : eqb l.var (suc v) ≡ true = grind arith in
+          elim (cases_eq m.var (suc v)) [
+            | inl h ↦ (let u : eqb m.var (suc v) ≡ true = grind arith in
+                let f' = rw (t, u) at f in
+                let r' = rw (t, u) at r in
+                let same : l ≡ m = lit_ext l m (g ∙ sym h) (sign_same l.positive m.positive f') in cc)
+            | inr h ↦ (let u : eqb m.var (suc v) ≡ false = grind arith in absurd (omega (arith, sign_pos l.positive, rw (t, u) at f)))
+          ])
+      | inr g ↦ (let t : eqb l.var (suc v) ≡ false = grind arith in
+          elim (cases_eq m.var (suc v)) [
+            | inl h ↦ (let u : eqb m.var (suc v) ≡ true = grind arith in absurd (omega (arith, sign_pos m.positive, rw (t, u) at f)))
+            | inr h ↦ (let u : eqb m.var (suc v) ≡ false = grind arith in rw (t, u) at r)
+          ])
     ]
 
 none_left : (v : ℕ) (c : List Lit) → IsAbove v c → IsWithin v c → c ≡ []
@@ -123,8 +128,9 @@ codes_below : (V q : ℕ) (cs : List (List Lit)) → list_any (eqb q) (map (code
 codes_below V q [] h = absurd (cc)
 codes_below V q (c ∷ cs) h =
     elim (or_cases (eqb q (code V 0 c)) (list_any (eqb q) (map (code V 0) cs)) h) [
-      inl e ↦ (let f : q ≡ code V 0 c = grind arith in omega (arith, code_below V 0 c))
-    | inr e ↦ codes_below V q cs e ]
+      | inl e ↦ (let f : q ≡ code V 0 c = grind arith in omega (arith, code_below V 0 c))
+      | inr e ↦ codes_below V q cs e
+    ]
 
 codes_apart : (V : ℕ) (cs : List (List Lit)) → IsFamily V cs → AllPairs (λ (x y : ℕ). x ≢ y) (map (code V 0) cs)
 codes_apart V cs f i j d lt h e =
@@ -147,6 +153,7 @@ count_law V cs f =
     let xs : List ℕ = map (code V 0) cs in
     let apart : AllPairs (λ (x y : ℕ). x ≢ y) (0 ∷ xs) = AllPairs-cons (λ (x y : ℕ). x ≢ y) 0 xs (codes_positive V cs f) (codes_apart V cs f) in
     let some : (q : ℕ) → list_any (eqb q) (0 ∷ xs) ≡ true → q < 3 ^ V = λ q h. elim (or_cases (eqb q 0) (list_any (eqb q) xs) h) [
-        inl e ↦ (let z : q ≡ 0 = grind arith in omega (arith, one-le-pow V 3 (omega arith)))
-      | inr e ↦ codes_below V q cs e ] in
+      | inl e ↦ (let z : q ≡ 0 = grind arith in omega (arith, one-le-pow V 3 (omega arith)))
+      | inr e ↦ codes_below V q cs e
+    ] in
     omega (arith, length-le_from_distinct_below (0 ∷ xs) (3 ^ V) (IsDistinct-from_AllPairs (λ a b. Decides-eqb a b) (0 ∷ xs) apart) some, length-map cs (code V 0))

@@ -1,8 +1,6 @@
 -- Clauses over V variables as numbers of V digits to the base 3.
-use Rattle.std.specs.Prelude.{◌≡◌, ◌≢◌, ℕ, ◌+◌, ◌*◌, ◌^◌, ◌<◌, ◌≤◌, Bool, true, false, not, if◌then◌else◌, List, [], ◌∷◌, length, AllPairs, All, zero, suc}
+use Rattle.std.specs.Prelude.{◌≢◌, ℕ, ◌^◌, ◌<◌, ◌≤◌, List, [], ◌∷◌, length, AllPairs, All}
 use Rattle.clause_store.specs.declared.lit.Lit.{Lit}
-use Rattle.clause_store.specs.Lits.{rank_of, same_lit, Ascends}
-use Rattle.std.proofs.Math.Bool.{beq}
 
 -- no two literals are of one variable, and they rise
 abbrev pub IsAbove : ℕ → List Lit → Type 0

@@ -48,7 +48,7 @@ pub contains_all : {X : Type 0} (P : X → Type 0) (xs : List X) (x : X) → All
 contains_all P xs x a h = subst P h.2 (a h.0 x h.1)
 
 pub grow_one : (known : List (List Lit)) (ns : List ℕ) (level : ℕ) (es : List Entry) (t : Trace) (k : ℕ) (l : Lit) (c : List Lit) → k < length ns → slice_get known (get_or ns k 0) ≡ Some c → Grows (attached_of known ns) level es t.entries → t.level ≡ level → Implies t.entries c l →
-  Grows (attached_of known ns) level es (record { lit = l; level = t.level; reason = Some (get_or ns k 0) } ∷ t.entries)
+    Grows (attached_of known ns) level es (record { lit = l; level = t.level; reason = Some (get_or ns k 0) } ∷ t.entries)
 grow_one known ns level es t k l c lt g q e i =
     let at = attached_at known ns k 0 lt in
     let at' = subst (λ (x : List Lit). Contains (attached_of known ns) (record { number = get_or ns k 0; clause = x })) (clause_at-get known (get_or ns k 0) c g) at in

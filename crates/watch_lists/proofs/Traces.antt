@@ -27,14 +27,14 @@ newest-push n row e d h =
 
 -- one more than the variables that have an entry is no more than all
 pub count_more : (slots : List (Option Entry)) (v : ℕ) (b : Entry) → v < length slots → ((d : Option Entry) → get_or slots v d ≡ None) →
-  count_by is_some (set slots v (Some b)) ≡ count_by is_some slots + 1
+    count_by is_some (set slots v (Some b)) ≡ count_by is_some slots + 1
 count_more slots v b h n =
     let s = sum_by-set (λ (o : Option Entry). cond (is_some o) 1 0) slots v (Some b) None h in
     let e = n None in
     let k = ap {B = ℕ} (λ (o : Option Entry). cond (is_some o) 1 0) e in omega (arith, s, k)
 
 pub count_less : (slots : List (Option Entry)) (v : ℕ) (b : Entry) → v < length slots → ((d : Option Entry) → get_or slots v d ≡ Some b) →
-  count_by is_some (set slots v None) + 1 ≡ count_by is_some slots
+    count_by is_some (set slots v None) + 1 ≡ count_by is_some slots
 count_less slots v b h n =
     let s = sum_by-set (λ (o : Option Entry). cond (is_some o) 1 0) slots v None None h in
     let e = n None in
@@ -51,24 +51,26 @@ free_entry (Some x) p h = absurd (cc)
 pub HasSlots-push : (vars : ℕ) (slots : List (Option Entry)) (es : List Entry) (e : Entry) → length slots ≡ vars → 1 ≤ e.lit.var → e.lit.var ≤ vars → HasSlots vars slots es → HasSlots vars (set slots (e.lit.var - 1) (Some e)) (e ∷ es)
 HasSlots-push vars slots es e w n r h v d b =
     elim (cases_eq e.lit.var (v + 1)) [
-      inl g ↦ (let t : eqb e.lit.var (v + 1) ≡ true = grind arith in
-               let i : v ≡ e.lit.var - 1 = omega arith in
-               let lt : e.lit.var - 1 < length slots = omega arith in
-               rw (t, i) (rw get_or-set_same))
-    | inr g ↦ (let t : eqb e.lit.var (v + 1) ≡ false = grind arith in
-               let ne : v ≢ e.lit.var - 1 = omega arith in
-               rw t (get_or-set_other slots (e.lit.var - 1) v (Some e) d ne ∙ h v d b)) ]
+      | inl g ↦ (let t : eqb e.lit.var (v + 1) ≡ true = grind arith in
+          let i : v ≡ e.lit.var - 1 = omega arith in
+          let lt : e.lit.var - 1 < length slots = omega arith in
+          rw (t, i) (rw get_or-set_same))
+      | inr g ↦ (let t : eqb e.lit.var (v + 1) ≡ false = grind arith in
+          let ne : v ≢ e.lit.var - 1 = omega arith in
+          rw t (get_or-set_other slots (e.lit.var - 1) v (Some e) d ne ∙ h v d b))
+    ]
 
 pub HasSlots-pop : (vars : ℕ) (slots : List (Option Entry)) (es : List Entry) (e : Entry) → length slots ≡ vars → 1 ≤ e.lit.var → e.lit.var ≤ vars → entry_of es e.lit.var ≡ None → HasSlots vars slots (e ∷ es) → HasSlots vars (set slots (e.lit.var - 1) None) es
 HasSlots-pop vars slots es e w n r f h v d b =
     elim (cases_eq e.lit.var (v + 1)) [
-      inl g ↦ (let i : v ≡ e.lit.var - 1 = omega arith in
-               let lt : e.lit.var - 1 < length slots = omega arith in
-               let same : get_or (set slots (e.lit.var - 1) None) (e.lit.var - 1) d ≡ None = rw get_or-set_same in
-               ap (λ (k : ℕ). get_or (set slots (e.lit.var - 1) None) k d) i ∙ same ∙ sym f ∙ ap (entry_of es) g)
-    | inr g ↦ (let t : eqb e.lit.var (v + 1) ≡ false = grind arith in
-               let ne : v ≢ e.lit.var - 1 = omega arith in
-               get_or-set_other slots (e.lit.var - 1) v None d ne ∙ (rw t at (h v d b))) ]
+      | inl g ↦ (let i : v ≡ e.lit.var - 1 = omega arith in
+          let lt : e.lit.var - 1 < length slots = omega arith in
+          let same : get_or (set slots (e.lit.var - 1) None) (e.lit.var - 1) d ≡ None = rw get_or-set_same in
+          ap (λ (k : ℕ). get_or (set slots (e.lit.var - 1) None) k d) i ∙ same ∙ sym f ∙ ap (entry_of es) g)
+      | inr g ↦ (let t : eqb e.lit.var (v + 1) ≡ false = grind arith in
+          let ne : v ≢ e.lit.var - 1 = omega arith in
+          get_or-set_other slots (e.lit.var - 1) v None d ne ∙ (rw t at (h v d b)))
+    ]
 
 pub free_place : (slots : List (Option Entry)) (es : List Entry) (l : Lit) → HasSlots (length slots) slots es → 1 ≤ l.var → l.var ≤ length slots → value_of es l ≡ None → (d : Option Entry) → get_or slots (l.var - 1) d ≡ None
 free_place slots es l h a b f d = let k : l.var - 1 + 1 ≡ l.var = omega arith in h (l.var - 1) d (omega arith) ∙ ap (entry_of es) k ∙ free_entry (entry_of es l.var) l.positive f
@@ -115,8 +117,8 @@ row_pop row len slots r z =
     let h : HasSlots (length slots) slots (e ∷ es) = subst (HasSlots (length slots) slots) (newest-pred len row no_entry z) r.slots in
     let i : e.lit.var - 1 < length slots = omega (arith, ap'.1, ap'.2) in
     let at : (d : Option Entry) → get_or slots (e.lit.var - 1) d ≡ Some e = λ d. (let k : e.lit.var - 1 + 1 ≡ e.lit.var = omega (arith, ap'.1) in
-        let t : eqb e.lit.var e.lit.var ≡ true = grind arith in
-        h (e.lit.var - 1) d i ∙ ap (entry_of (e ∷ es)) k ∙ ap (λ (b : Bool). cond b (Some e) (entry_of es e.lit.var)) t) in
+    let t : eqb e.lit.var e.lit.var ≡ true = grind arith in
+    h (e.lit.var - 1) d i ∙ ap (entry_of (e ∷ es)) k ∙ ap (λ (b : Bool). cond b (Some e) (entry_of es e.lit.var)) t) in
     let c = count_less slots (e.lit.var - 1) e i at in
     record {
       entries = r.entries ∙ sym n;
@@ -137,8 +139,8 @@ pub stacked_upto : (level k : ℕ) (es : List Entry) → IsStacked level es → 
 stacked_upto level k [] s h = omega (arith, s)
 stacked_upto level k (e ∷ es) s h =
     elim (cases_lt k e.level) [
-      inr g ↦ (let t : nat_le e.level k ≡ true = grind arith in let q : k ≡ level = omega (arith, s.0) in rw t (subst (λ (n : ℕ). IsStacked n (e ∷ es)) (sym q) s))
-    | inl g ↦ (let t : nat_le e.level k ≡ false = grind arith in rw t (elim s.1 [ inl d ↦ stacked_upto d.1.0 k es d.1.2 (omega (arith, d.1.1, s.0)) | inr i ↦ stacked_upto level k es i.1 h ]))
+      | inr g ↦ (let t : nat_le e.level k ≡ true = grind arith in let q : k ≡ level = omega (arith, s.0) in rw t (subst (λ (n : ℕ). IsStacked n (e ∷ es)) (sym q) s))
+      | inl g ↦ (let t : nat_le e.level k ≡ false = grind arith in rw t (elim s.1 [ inl d ↦ stacked_upto d.1.0 k es d.1.2 (omega (arith, d.1.1, s.0)) | inr i ↦ stacked_upto level k es i.1 h ]))
     ]
 
 pub oldest_cons : (k : ℕ) (e : Entry) (es : List Entry) → k ≤ length es → oldest k (e ∷ es) ≡ oldest k es
@@ -148,6 +150,6 @@ pub oldest_newest : (n k : ℕ) (row : List Entry) (d : Entry) → k ≤ n → o
 oldest_newest zero k row d h = let z : k ≡ 0 = omega arith in rw z refl
 oldest_newest (suc n) k row d h =
     elim (cases_eq k (suc n)) [
-      inl g ↦ (let z : suc (length (newest n row d)) - suc n ≡ 0 = omega (arith, length-newest n row d) in rw g (ap (λ (m : ℕ). drop m (newest (suc n) row d)) z))
-    | inr g ↦ oldest_cons k (get_or row n d) (newest n row d) (omega (arith, length-newest n row d)) ∙ oldest_newest n k row d (omega arith)
+      | inl g ↦ (let z : suc (length (newest n row d)) - suc n ≡ 0 = omega (arith, length-newest n row d) in rw g (ap (λ (m : ℕ). drop m (newest (suc n) row d)) z))
+      | inr g ↦ oldest_cons k (get_or row n d) (newest n row d) (omega (arith, length-newest n row d)) ∙ oldest_newest n k row d (omega arith)
     ]

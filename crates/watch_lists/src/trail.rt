@@ -106,11 +106,14 @@ impl Trail {
     {
         let _ = self.len();
         let level = self.level;
-        self.put(Entry {
-            lit,
+        self.put(
+            Entry {
+                lit,
+                level,
+                reason: Some(reason),
+            },
             level,
-            reason: Some(reason),
-        }, level);
+        );
     }
 
     /// Opens a level with this literal.
@@ -123,11 +126,14 @@ impl Trail {
     {
         let _ = self.len();
         let level = self.level + 1;
-        self.put(Entry {
-            lit,
+        self.put(
+            Entry {
+                lit,
+                level,
+                reason: None,
+            },
             level,
-            reason: None,
-        }, level);
+        );
     }
 
     fn put(&mut self, entry: Entry, level: u32)

@@ -22,26 +22,26 @@ pub loop-number-preserved : goal.loop-number-preserved
 loop-number-preserved c =
     let inv = c.loop-number.invariant in
     elim c.match-look.branch [
-      in-Unit w ↦
-        (let e = w.trail-is ∙ w.imply.ensures.after in
-         let within = rw w.imply.ensures.after at w.imply.ensures.within in
-         rw (e, w.moved-is) (record {
-           vars = inv.vars;
-           level = inv.level;
-           within = within;
-           grows = grow_one c.args.known.now.list c.args.numbers.now c.args.trail.now.level c.args.trail.now.entries c.loop-number.trail c.loop-number.number-index w.in-Unit.lit c.clause-clause.result.now c.loop-number-test.true c.clause-clause.ensures.value inv.grows inv.level w.in-Unit.ensures;
-           still = λ h. absurd (cc);
-           more = λ h. omega (arith, grows_le (attached_of c.args.known.now.list c.args.numbers.now) c.args.trail.now.level c.args.trail.now.entries c.loop-number.trail.entries inv.grows);
-         }))
-    | in-Settled w ↦
-        rw (w.trail-is, w.moved-is) (record {
-          vars = inv.vars;
-          level = inv.level;
-          within = inv.within;
-          grows = inv.grows;
-          still = λ h. below_more _ _ (inv.still h) (rw (clause_at-get c.args.known.now.list (get_or c.args.numbers.now c.loop-number.number-index 0) c.clause-clause.result.now c.clause-clause.ensures.value) w.in-Settled.ensures);
-          more = inv.more;
-        })
+      | in-Unit w ↦
+          (let e = w.trail-is ∙ w.imply.ensures.after in
+          let within = rw w.imply.ensures.after at w.imply.ensures.within in
+          rw (e, w.moved-is) (record {
+            vars = inv.vars;
+            level = inv.level;
+            within = within;
+            grows = grow_one c.args.known.now.list c.args.numbers.now c.args.trail.now.level c.args.trail.now.entries c.loop-number.trail c.loop-number.number-index w.in-Unit.lit c.clause-clause.result.now c.loop-number-test.true c.clause-clause.ensures.value inv.grows inv.level w.in-Unit.ensures;
+            still = λ h. absurd (cc);
+            more = λ h. omega (arith, grows_le (attached_of c.args.known.now.list c.args.numbers.now) c.args.trail.now.level c.args.trail.now.entries c.loop-number.trail.entries inv.grows);
+          }))
+      | in-Settled w ↦
+          rw (w.trail-is, w.moved-is) (record {
+            vars = inv.vars;
+            level = inv.level;
+            within = inv.within;
+            grows = inv.grows;
+            still = λ h. below_more _ _ (inv.still h) (rw (clause_at-get c.args.known.now.list (get_or c.args.numbers.now c.loop-number.number-index 0) c.clause-clause.result.now c.clause-clause.ensures.value) w.in-Settled.ensures);
+            more = inv.more;
+          })
     ]
 
 pub returns-else-moved-clause-answer : goal.returns-else-moved-clause-answer

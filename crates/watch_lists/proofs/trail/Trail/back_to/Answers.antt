@@ -37,7 +37,7 @@ loop-self-preserved c =
     }
 
 stop : (level level' len : ℕ) (row first : List Entry) (slots old : List (Option Entry)) (len' : ℕ) → IsRow first len' old level' → level ≤ level' → IsPopped row len slots →
-  upto level (newest len row no_entry) ≡ upto level (newest len' first no_entry) → upto level (newest len row no_entry) ≡ newest len row no_entry → IsRow row len slots level
+    upto level (newest len row no_entry) ≡ upto level (newest len' first no_entry) → upto level (newest len row no_entry) ≡ newest len row no_entry → IsRow row len slots level
 stop level level' len row first slots old len' r h p same is =
     record { entries = p.entries; apart = p.apart; slots = p.slots; count = p.count; few = p.few; stacked = subst (IsStacked level) (sym same ∙ is) (stacked_upto level' level (newest len' first no_entry) r.stacked h) }
 
@@ -48,9 +48,10 @@ invariant_of-self c =
     let n : ℕ = c.loop-self.self-inside.len in
     let h : c.args.level ≤ c.self.inside.level = subst (λ (t : Trace). c.args.level ≤ t.level) (sym c.self.view_is) c.requires in
     let is : upto c.args.level (newest n row no_entry) ≡ newest n row no_entry = elim c.loop-self-test.branch [
-        else-loop-self-test w ↦ upto_zero c.args.level n row (omega (arith, w.loop-self-test.false))
+      | else-loop-self-test w ↦ upto_zero c.args.level n row (omega (arith, w.loop-self-test.false))
       | then-loop-self-test+then-entry-level w ↦
           (let z : n ≡ 0 → ⊥ = omega (arith, w.loop-self-test.true) in
-           let e : w.index-entry.result.now ≡ get_or row (n - 1) no_entry = get_or_read_under row (n - 1) (length row) w.index-entry.result.now no_entry w.index-entry.ensures (few row n c.loop-self.self-inside.slots.items inv.popped z) refl in
-           upto_stop c.args.level n row z (subst (λ (x : Entry). x.level ≤ c.args.level) e w.if-entry-level.true)) ] in
+          let e : w.index-entry.result.now ≡ get_or row (n - 1) no_entry = get_or_read_under row (n - 1) (length row) w.index-entry.result.now no_entry w.index-entry.ensures (few row n c.loop-self.self-inside.slots.items inv.popped z) refl in
+          upto_stop c.args.level n row z (subst (λ (x : Entry). x.level ≤ c.args.level) e w.if-entry-level.true))
+    ] in
     stop c.args.level c.self.inside.level n row c.self.inside.entries.items c.loop-self.self-inside.slots.items c.self.inside.slots.items c.self.inside.len c.self.invariant h inv.popped inv.same is

@@ -27,4 +27,4 @@ returns c =
     let h = subst (λ (t : Trace). c.args.k < length t.entries) (sym c.self.view_is) c.requires in
     let e : c.index.result.now ≡ get_or c.self.inside.entries.items c.args.k no_entry = get_or_read_under c.self.inside.entries.items c.args.k (length c.self.inside.entries.items) c.index.result.now no_entry c.index.ensures (omega (arith, length-newest c.self.inside.len c.self.inside.entries.items no_entry, h, c.self.invariant.entries, c.self.invariant.count, count_by-le-length is_some c.self.inside.slots.items)) refl in
     subst (λ (t : Trace). oldest (c.args.k + 1) t.entries ≡ c.index.result.now ∷ oldest c.args.k t.entries) c.self.view_is
-      (oldest_at c.self.inside.len c.args.k c.self.inside.entries.items c.index.result.now (within c.self.inside.len c.args.k c.self.inside.entries.items h) e)
+    (oldest_at c.self.inside.len c.args.k c.self.inside.entries.items c.index.result.now (within c.self.inside.len c.args.k c.self.inside.entries.items h) e)

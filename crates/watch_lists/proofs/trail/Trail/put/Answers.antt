@@ -33,5 +33,10 @@ returns-clause-within c =
     let b : c.args.entry.lit.var ≤ length c.self.inside.slots.items = subst (λ (n : ℕ). c.args.entry.lit.var ≤ n) (sym (ap (λ (t : Trace). t.vars) c.self.view_is)) c.requires.in_range in
     let f : value_of (newest c.self.inside.len c.self.inside.entries.items no_entry) c.args.entry.lit ≡ None = subst (λ (es : List Entry). value_of es c.args.entry.lit ≡ None) (sym (ap (λ (t : Trace). t.entries) c.self.view_is)) c.requires.free in
     let room = row_room c.self.inside.entries.items c.self.inside.len c.self.inside.slots.items c.self.inside.level c.args.entry c.self.invariant c.requires.named b f in
-    omega (arith, room, c.self.invariant.entries, length-set c.self.inside.slots.items (c.args.entry.lit.var - 1) (Some c.args.entry),
-      length-newest (c.self.inside.len + 1) (set c.self.inside.entries.items c.self.inside.len c.args.entry) no_entry)
+    omega (
+      arith,
+      room,
+      c.self.invariant.entries,
+      length-set c.self.inside.slots.items (c.args.entry.lit.var - 1) (Some c.args.entry),
+      length-newest (c.self.inside.len + 1) (set c.self.inside.entries.items c.self.inside.len c.args.entry) no_entry,
+    )

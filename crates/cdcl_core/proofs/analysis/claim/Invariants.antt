@@ -1,0 +1,13 @@
+use Rattle.std.proofs.Common.{◌≡◌, ◌≤◌, ◌-◌, length}
+use Rattle.watch_lists.specs.Trace.{upto, oldest}
+use Rattle.cdcl_core.proofs.Claims.{IsClaiming}
+use Rattle.cdcl_core.proofs.analysis.claim.Given as goal
+
+abbrev pub invariant-back : goal.invariant-back
+invariant-back g l = record {
+  within : l.left ≤ length l.trail.entries;
+  claiming : IsClaiming l.known.list (g.P.Propagator.attached l.propagator) l.trail.vars l.assumptions (oldest l.left l.trail.entries) l.first l.chain.items l.clause;
+}
+
+abbrev pub decreases-back : goal.decreases-back
+decreases-back g l = l.left

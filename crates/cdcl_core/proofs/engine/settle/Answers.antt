@@ -1,0 +1,34 @@
+use Rattle.std.proofs.Common.{rules, arith, ◌≡◌, ◌≢◌, ◌≤◌, ◌<◌, ◌+◌, ◌-◌, ℕ, List, length, sym, ◌∙◌, subst, Some, None, true, false, ap, [], ◌∷◌, ◌++◌, refl, Option, inl, inr}
+use Rattle.std.specs.Prelude.{slice_get, All}
+use Rattle.clause_store.specs.declared.lit.Lit.{Lit}
+use Rattle.clause_store.specs.Lits.{Ascends, Includes}
+use Rattle.clause_store.specs.Clauses.{Clauses}
+use Rattle.derivation_log.specs.Logs.{Log, known_of, learned_of, Follows, Comes}
+use Rattle.derivation_log.specs.declared.step.Step.{Step}
+use Rattle.watch_lists.specs.declared.entry.Entry.{Entry}
+use Rattle.watch_lists.specs.Trace.{Place, places_of, Trace, Attached, room_of, upto, IsStacked, Grows, ExtendsAt, IsComplete, clause_at}
+use Rattle.watch_lists.proofs.Scans.{grows_le}
+use Rattle.solver_laws.specs.Ready.{IsReady, IsLog, DecidesOnly, IsLesson, IsJustified}
+use Rattle.solver_laws.proofs.Rooms.{upto_whole}
+use Rattle.solver_laws.proofs.Turns.{ready_settled, ready_opened, undo_extends, ready_back, ready_claimed, ready_learned, is_new, log_more, decides_grows, grows_upto, known_push}
+use Rattle.cdcl_core.proofs.engine.settle.Goals as goal
+
+pub returns-clause-ready : goal.returns-clause-ready
+returns-clause-ready g c =
+    let w : List Attached = g.P.Propagator.attached c.args.propagator.now in
+    let f : List Place = g.P.Propagator.followed c.args.propagator.now in
+    let n : ℕ = g.P.Propagator.vars c.args.propagator.now in
+    let f' : List Place = g.P.Propagator.followed c.propagate.new.self in
+    let e = c.propagate.ensures in
+    let r : IsReady c.args.log.now w f' n c.propagate.new.trail = ready_settled c.args.log.now w f f' n c.args.trail.now c.propagate.new.trail c.requires e.grows e.level e.trail_vars e.followed_more e.followed_part in
+    let r1 = subst (λ (x : List Attached). IsReady c.args.log.now x f' n c.propagate.new.trail) (sym e.attached) r in
+    subst (λ (v : ℕ). IsReady c.args.log.now (g.P.Propagator.attached c.propagate.new.self) f' v c.propagate.new.trail) (sym e.vars) r1
+
+pub returns-clause-below : goal.returns-clause-below
+returns-clause-below g c k lt = grows_upto (g.P.Propagator.attached c.args.propagator.now) c.args.trail.now.level k c.args.trail.now.entries c.propagate.new.trail.entries c.propagate.ensures.grows lt
+
+pub returns-clause-more : goal.returns-clause-more
+returns-clause-more g c = grows_le (g.P.Propagator.attached c.args.propagator.now) c.args.trail.now.level c.args.trail.now.entries c.propagate.new.trail.entries c.propagate.ensures.grows
+
+pub returns-clause-decides : goal.returns-clause-decides
+returns-clause-decides g c asked k d = decides_grows (g.P.Propagator.attached c.args.propagator.now) asked k c.args.trail.now.level c.args.trail.now.entries c.propagate.new.trail.entries c.propagate.ensures.grows d

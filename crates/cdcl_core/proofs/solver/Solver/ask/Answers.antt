@@ -1,0 +1,39 @@
+use Rattle.std.proofs.Common.{◌≡◌, ap, subst}
+use Rattle.derivation_log.specs.Logs.{Log, is_learned}
+use Rattle.cdcl_core.specs.Replies.{IsAnswered}
+use Rattle.std.proofs.Common.{ℕ, ◌≤◌, ◌+◌, ◌<◌, List, [], ◌∷◌, ◌++◌, length, true, false, refl, arith, suc, inl, inr, sym, ◌∙◌, ◌≢◌, cond}
+use Rattle.std.specs.Prelude.{◌^◌}
+use Rattle.std.proofs.lemmas.Bool.{cases_Bool}
+use Rattle.clause_store.specs.declared.lit.Lit.{Lit}
+use Rattle.derivation_log.specs.Logs.{learned_of, is_learned}
+use Rattle.derivation_log.specs.declared.step.Step.{Step}
+use Rattle.solver_laws.proofs.Few.{few_learned}
+use Rattle.cdcl_core.specs.Replies.{IsGrown, AllLearned}
+use Rattle.cdcl_core.specs.declared.searching.Reply.{Reply}
+use Rattle.cdcl_core.specs.declared.searching.Reply.TheVariants.{Found, Refuted, GaveUp}
+use Rattle.cdcl_core.specs.State.{State, IsNotSpent}
+use Rattle.cdcl_core.proofs.solver.Solver.ask.Goals as goal
+
+pub returns-clause-answered : goal.returns-clause-answered
+returns-clause-answered g c = subst (λ (x : Log). IsAnswered x c.search.new.log c.args.assumptions.now c.args.budget c.in_ok-reply.reply) (ap (λ (s : State). s.log) c.self.view_is) c.in_ok-reply.ensures.answered
+
+all_counted : (ss : List Step) → AllLearned ss → length (learned_of ss) ≡ length ss
+all_counted [] a = refl
+all_counted (s ∷ ss) a = rw (a.0) (ap (λ (n : ℕ). suc n) (all_counted ss a.1))
+
+more_counted : (xs ys : List Step) → length (learned_of ys) ≤ length (learned_of (xs ++ ys))
+more_counted [] ys = omega arith
+more_counted (x ∷ xs) ys = elim (cases_Bool (is_learned x.kind)) [ inl t ↦ rw t (omega (arith, more_counted xs ys)) | inr t ↦ rw t (more_counted xs ys) ]
+
+not_spent : (old new : Log) (asked : List Lit) (budget : ℕ) (r : Reply) → 3 ^ old.vars ≤ budget → IsAnswered old new asked budget r → IsNotSpent r
+not_spent old new asked budget (Found values) h a = tt
+not_spent old new asked budget (Refuted n) h a = tt
+not_spent old new asked budget (GaveUp n) h a =
+    let f = few_learned new a.0.log in
+    let v = ap (λ (k : ℕ). 3 ^ k) a.0.vars in
+    let m = all_counted a.0.steps.0 a.0.steps.2 in
+    let q = ap (λ (ss : List Step). length (learned_of ss)) a.0.steps.1 in
+    omega (arith, f, v, m, q, more_counted old.steps a.0.steps.0, a.0.steps.3, h)
+
+pub returns-clause-enough : goal.returns-clause-enough
+returns-clause-enough g c h = not_spent c.args.self.now.log c.search.new.log c.args.assumptions.now c.args.budget c.in_ok-reply.reply h (returns-clause-answered g c)

@@ -1,0 +1,19 @@
+-- What is decided next.
+use Rattle.std.specs.Prelude.{◌≡◌, ◌≢◌, ℕ, ◌+◌, ◌<◌, ◌≤◌, Bool, true, false, List, [], ◌∷◌, length, Option, Some, None, slice_index_or, unwrap_or, All, Contains}
+use Rattle.clause_store.specs.declared.lit.Lit.{Lit}
+use Rattle.watch_lists.specs.declared.entry.Entry.{Entry}
+use Rattle.watch_lists.specs.Trace.{Trace, value_of, entry_of}
+use Rattle.clause_store.specs.Lits.{has}
+use Rattle.cdcl_core.specs.declared.choice.Choice.{Choice}
+use Rattle.cdcl_core.specs.declared.choice.Choice.TheVariants.{Contrary, Assume, Free, Full}
+
+abbrev pub IsChosen : List Lit → Trace → Choice → Type 0
+IsChosen assumptions t (Contrary l) = (Contains assumptions l) × (value_of t.entries l ≡ Some false)
+IsChosen assumptions t (Assume l) = (Contains assumptions l) × (value_of t.entries l ≡ None)
+IsChosen assumptions t (Free l) = All (λ l. value_of t.entries l ≡ Some true) assumptions × (1 ≤ l.var) × (l.var ≤ t.vars) × (value_of t.entries l ≡ None)
+IsChosen assumptions t Full = All (λ l. value_of t.entries l ≡ Some true) assumptions × ((v : ℕ) → 1 ≤ v → v ≤ t.vars → value_of t.entries (record { var = v; positive = false }) ≢ None)
+
+-- the value of each variable, false where it has none
+pub record HasValues (t : Trace) (values : List Bool) : Type 0 where
+  pub size : length values ≡ t.vars
+  pub each : (v : ℕ) → v < t.vars → slice_index_or values v false ≡ unwrap_or (value_of t.entries (record { var = v + 1; positive = true })) false

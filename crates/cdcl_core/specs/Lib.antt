@@ -1,0 +1,6 @@
+pub mod Analysis
+pub mod Choices
+pub mod Turns
+pub mod Asking
+pub mod Replies
+pub mod State

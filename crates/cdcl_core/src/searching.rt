@@ -1,0 +1,108 @@
+// The solver: decide, propagate, learn.
+ghost use Rattle.std.specs.Prelude.{◌≡◌, ◌≢◌, ◌+◌, ◌-◌, ◌<◌, ◌≤◌, ◌∷◌, [], ◌++◌, ℕ, List, Bool, true, false, length, IfOk, OnOk, OnErr, IfSome, IfNone, Some, None, Contains, AllPairs, All};
+ghost use Rattle.clause_store.specs.declared.lit.Lit.{Lit};
+ghost use Rattle.clause_store.specs.Lits.{InRange};
+ghost use Rattle.derivation_log.specs.Logs.{Log, known_of};
+ghost use Rattle.watch_lists.specs.Trace.{Trace, value_of, IsComplete};
+ghost use Rattle.solver_laws.specs.Ready.{IsReady, IsLog, DecidesOnly};
+ghost use Rattle.cdcl_core.specs.Turns.{IsKept, IsClaimed};
+ghost use Rattle.cdcl_core.specs.Asking.{IsAsking, IsTurn};
+ghost use Rattle.cdcl_core.specs.Replies.{IsAnswered};
+ghost use Rattle.cdcl_core.specs.Choices.{HasValues};
+
+use crate::analysis::learn;
+use crate::choice::values;
+use crate::engine::{Turn, descend, keep, refute, retreat};
+use clause_store::{Assignment, Lit};
+use derivation_log::Derivations;
+use edge::NoMemory;
+use std::alloc::Global;
+use watch_lists::{Propagator, Trail};
+
+#[derive(Drop)]
+pub enum Reply {
+    Found(Assignment),
+    Refuted(u64),
+    GaveUp(u64),
+}
+
+// Appends the claimed step for an assumption that is false.
+fn refute_contrary<P: Propagator>(
+    alloc: Global,
+    log: &mut Derivations,
+    trail: &Trail,
+    propagator: &P,
+    lit: Lit,
+    assumptions: &[Lit],
+) -> Result<u64, NoMemory>
+    requires ready { IsReady log.old (P.attached propagator.now) (P.followed propagator.now) (P.vars propagator.now) trail.now }
+    requires decides { DecidesOnly assumptions.now trail.now.level trail.now.entries }
+    requires distinct { AllPairs (λ a b. a.var ≢ b.var) assumptions.now }
+    requires in_range { InRange trail.now.vars assumptions.now }
+    requires asked { Contains assumptions.now lit }
+    requires is_false { value_of trail.now.entries lit ≡ Some false }
+    ensures ok { IfOk result (λ number. (number ≡ length (known_of log.old)) × IsClaimed log.old log.new assumptions.now) }
+    ensures err { OnErr result (log.new ≡ log.old) }
+    ensures ready { IsReady log.new (P.attached propagator.now) (P.followed propagator.now) (P.vars propagator.now) trail.now }
+{
+    let _ = trail.len();
+    match trail.reason_of(lit.var) {
+        Some(first) => {
+            let number = refute(alloc, log, trail, propagator, first, assumptions)?;
+            Ok(number)
+        }
+        None => unreachable!(),
+    }
+}
+
+// Looks for an answer.
+pub fn search<P: Propagator>(
+    alloc: Global,
+    log: &mut Derivations,
+    trail: &mut Trail,
+    propagator: &mut P,
+    assumptions: &[Lit],
+    budget: u64,
+) -> Result<Reply, NoMemory>
+    requires ready { IsReady log.old (P.attached propagator.old) (P.followed propagator.old) (P.vars propagator.old) trail.old }
+    requires rest { trail.old.level ≡ 0 }
+    requires in_range { InRange trail.old.vars assumptions.now }
+    requires distinct { AllPairs (λ a b. a.var ≢ b.var) assumptions.now }
+    ensures ready { OnOk result (IsReady log.new (P.attached propagator.new) (P.followed propagator.new) (P.vars propagator.new) trail.new) }
+    ensures rest { OnOk result (trail.new.level ≡ 0) }
+    ensures answered { IfOk result (λ reply. IsAnswered log.old log.new assumptions.now budget reply) }
+    ensures log { IsLog log.new }
+    ensures main { log.new.main ≡ log.old.main }
+    ensures log_vars { log.new.vars ≡ log.old.vars }
+{
+    let _ = trail.len();
+    let begin = log.known().len();
+    let mut assumed = 0;
+    for turn in 0..budget {
+        let (opened, next) = descend(log, trail, propagator, assumptions, assumed);
+        match next {
+            Turn::Conflict(number) => {
+                if trail.level() <= opened {
+                    let step = refute(alloc, log, trail, propagator, number, assumptions)?;
+                    retreat(log, trail, propagator, 0);
+                    return Ok(Reply::Refuted(step));
+                }
+                let lesson = learn(alloc, log.known(), trail, propagator, number)?;
+                let level = keep(log, trail, propagator, lesson)?;
+                assumed = opened.min(level);
+            }
+            Turn::Contrary(lit) => {
+                let step = refute_contrary(alloc, log, trail, propagator, lit, assumptions)?;
+                retreat(log, trail, propagator, 0);
+                return Ok(Reply::Refuted(step));
+            }
+            Turn::Full => {
+                let found = values(alloc, trail)?;
+                retreat(log, trail, propagator, 0);
+                return Ok(Reply::Found(found));
+            }
+        }
+    }
+    retreat(log, trail, propagator, 0);
+    Ok(Reply::GaveUp(begin))
+}
