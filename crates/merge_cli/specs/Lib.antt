@@ -1,5 +1,6 @@
 pub mod Answers
 pub mod Forms
 pub mod Merge
+pub mod ReportLines
 pub use Rattle.edge.specs.Faults
 pub use Rattle.edge.specs.Streams

@@ -5,6 +5,7 @@ mod exact;
 mod forms;
 mod merging;
 mod reply;
+mod report;
 pub mod status;
 #[cfg(test)]
 mod tests;
