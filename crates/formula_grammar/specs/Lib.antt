@@ -1,0 +1,6 @@
+pub mod Grammar
+pub mod Machine
+pub mod Makers
+pub mod Readings
+pub mod Symbols
+pub mod Turns
