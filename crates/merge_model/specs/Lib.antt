@@ -4,3 +4,4 @@ pub mod Distances
 pub mod Limits
 pub mod Merging
 pub mod Plain
+pub mod Walks

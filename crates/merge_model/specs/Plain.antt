@@ -1,5 +1,5 @@
 -- What the plain program computes on its way, of lists of models in rising order.
-use Rattle.std.specs.Prelude.{◌≡◌, ℕ, ◌+◌, ◌<◌, ◌≤◌, Bool, true, false, List, [], ◌∷◌, length, map, All, get_or, nat_lt, if◌then◌else◌}
+use Rattle.std.specs.Prelude.{◌≡◌, ℕ, ◌+◌, ◌<◌, ◌≤◌, Bool, true, false, List, [], ◌∷◌, length, map, All, get_or, nat_lt, if◌then◌else◌, Option, None, Some}
 use Rattle.formulas.specs.declared.formula.Formula.{Formula}
 use Rattle.formulas.specs.Formulas.{holds}
 use Rattle.ranks.specs.Ranks.{IsNoWorse}
@@ -41,3 +41,8 @@ pub record Refutes (rank : List ℕ → List ℕ) (candidates : List (List Bool)
   pub within : place < length candidates
   pub tied : IsNoWorse rank (get_or fulls place []) (get_or fulls best [])
   pub false_there : holds ask (get_or candidates place []) ≡ false
+
+-- the first valuation of a list
+abbrev pub first_of : List (List Bool) → Option (List Bool)
+first_of [] = None
+first_of (v ∷ models) = Some v

@@ -1,0 +1,9 @@
+use Rattle.std.proofs.Common.{length, List, Bool, All, subst, sym, ◌∙◌, ◌≡◌}
+use Rattle.merge_model.proofs.Nearest.{nearest_sizes}
+use Rattle.merge_model.proofs.plain.judged.shown.Goals as goal
+
+pub distances-requires : goal.distances-requires
+distances-requires g c =
+    let dist = g.D.Distance.dist c.args.distance.now in
+    subst (λ (ws : List (List Bool)). All (λ w. length w ≡ length c.args.model) ws) (sym (c.deref.ensures.value ∙ c.in_ok-nearest.ensures))
+    (nearest_sizes dist c.args.model (length c.args.model) c.args.tables.now c.requires)
