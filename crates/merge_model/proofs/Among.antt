@@ -1,10 +1,10 @@
 -- Membership in a list, the least number of a list, and membership in the list of all valuations.
-use Rattle.std.proofs.Common.{◌≡◌, ℕ, zero, suc, ◌+◌, ◌≤◌, ◌<◌, Bool, true, false, List, [], ◌∷◌, ◌++◌, length, map, filter, min, refl, ap, sym, subst, ◌∙◌, arith, ◌⊎◌, inl, inr, cond, All}
+use Rattle.std.proofs.Common.{◌≡◌, ℕ, zero, suc, ◌≤◌, Bool, true, false, List, [], ◌∷◌, ◌++◌, length, map, filter, refl, ap, sym, subst, ◌∙◌, arith, ◌⊎◌, inl, inr, cond, All}
 use Rattle.std.proofs.lemmas.List.Elements.{All-cons, All-nil, All-head, All-tail}
 use Rattle.formulas.specs.declared.formula.Formula.{Formula}
 use Rattle.formulas.specs.Formulas.{holds}
 use Rattle.formulas.specs.Words.{all_words}
-use Rattle.merge_model.specs.Merging.{IsModel, HasModel, models_of, least_of}
+use Rattle.merge_model.specs.Merging.{IsModel, models_of, least_of}
 
 -- x is an element
 abbrev pub Among : {X : Type 0} → X → List X → Type 0

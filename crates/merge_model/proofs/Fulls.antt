@@ -1,13 +1,13 @@
 -- The full vectors of a problem can be compared.
-use Rattle.std.proofs.Common.{◌≡◌, ℕ, zero, suc, ◌+◌, ◌*◌, ◌≤◌, ◌<◌, Bool, List, [], ◌∷◌, ◌++◌, length, map, min, replicate, sum_by, refl, ap, sym, ◌∙◌, arith, All, length-append}
+use Rattle.std.proofs.Common.{◌≡◌, ℕ, ◌≤◌, Bool, List, [], ◌∷◌, length, map, replicate, sum_by, refl, sym, ◌∙◌, arith, All, length-append}
 use Rattle.std.proofs.lemmas.List.{length-map, length-replicate}
-use Rattle.std.proofs.lemmas.List.Elements.{All-cons, All-nil, All-head, All-tail, All-map, All-append, All-replicate, All-weaker}
+use Rattle.std.proofs.lemmas.List.Elements.{All-nil, All-head, All-tail, All-map, All-append, All-replicate}
 use Rattle.std.proofs.lemmas.List.Sums.{sum_by-cons}
 use Rattle.formulas.specs.declared.formula.Formula.{Formula}
 use Rattle.merge_model.specs.declared.agent.Agent.{Agent}
 use Rattle.merge_model.specs.declared.problem.Problem.{Problem}
 use Rattle.merge_model.specs.Answers.{profile_of}
-use Rattle.merge_model.specs.Merging.{Profile, models_of, least_of, away, vector_of, repeated, full_of}
+use Rattle.merge_model.specs.Merging.{models_of, least_of, away, vector_of, repeated, full_of}
 use Rattle.merge_model.specs.Plain.{AreComparable}
 use Rattle.merge_model.proofs.Among.{among_all, among_model}
 

@@ -1,12 +1,11 @@
 -- Which formulas have a model, read off their lists of models.
-use Rattle.std.proofs.Common.{◌≡◌, ℕ, zero, suc, ◌+◌, ◌≤◌, ◌<◌, Bool, List, [], ◌∷◌, length, map, get_or, Option, None, Some, refl, ap, sym, subst, ◌∙◌, arith, All, ◌⊎◌, inl, inr, ◌↔◌}
+use Rattle.std.proofs.Common.{◌≡◌, ℕ, zero, suc, ◌≤◌, ◌<◌, Bool, List, [], ◌∷◌, length, map, get_or, Option, None, refl, ap, sym, subst, ◌∙◌, arith, All, ◌⊎◌, inl, inr}
 use Rattle.std.specs.List.{AllZip, Any, Contains}
-use Rattle.std.proofs.lemmas.List.{length-map, get_or-map}
 use Rattle.std.proofs.lemmas.List.Elements.{All-cons, All-nil, All-head, All-tail, All-get_or}
 use Rattle.formulas.specs.declared.formula.Formula.{Formula}
 use Rattle.merge_model.specs.declared.answer.Shown.{Shown}
 use Rattle.merge_model.specs.declared.answer.Verdict.{Verdict}
-use Rattle.merge_model.specs.Merging.{Profile, IsModel, HasModel, LacksModel, models_of}
+use Rattle.merge_model.specs.Merging.{Profile, HasModel, LacksModel, models_of}
 use Rattle.merge_model.specs.Answers.{IsNamedEntry, NamesModels, IsRightMerge}
 use Rattle.merge_model.specs.Plain.{first_of}
 use Rattle.merge_model.proofs.Among.{Among, model_among, among_model}

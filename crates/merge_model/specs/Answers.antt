@@ -15,7 +15,7 @@ use Rattle.merge_model.specs.declared.operator.DistanceName.{DistanceName}
 use Rattle.merge_model.specs.declared.operator.DistanceName.TheVariants.{Drastic, Hamming}
 use Rattle.merge_model.specs.declared.problem.Problem.{Problem}
 use Rattle.merge_model.specs.Distances.{drastic, hamming}
-use Rattle.merge_model.specs.Merging.{Profile, IsModel, HasModel, IsClosest, IsEntailed, LacksModel, away, vector_of, repeated}
+use Rattle.merge_model.specs.Merging.{Profile, IsModel, HasModel, IsClosest, IsEntailed, away, vector_of, repeated}
 
 -- the distance of a name
 abbrev pub dist_named : DistanceName → List Bool → List Bool → ℕ

@@ -1,11 +1,11 @@
-use Rattle.std.proofs.Common.{◌≡◌, ◌∙◌, ◌≤◌, ◌↔◌, IfOk, List, Bool, ℕ, Result, Ok, Err, All, length, map, ap, inl, inr, subst, sym, false, true}
+use Rattle.std.proofs.Common.{◌≡◌, ◌∙◌, ◌≤◌, ◌↔◌, IfOk, List, Bool, ℕ, Result, Ok, Err, All, length, map, ap, inl, inr, sym}
 use Rattle.formulas.specs.declared.formula.Formula.{Formula}
 use Rattle.edge.specs.declared.NoMemory.{NoMemory}
 use Rattle.merge_model.specs.declared.agent.Agent.{Agent}
 use Rattle.merge_model.specs.declared.answer.Answer.{Answer}
 use Rattle.merge_model.specs.declared.answer.Answer.TheVariants.{Merged, Inconsistent, GaveUp}
 use Rattle.merge_model.specs.declared.problem.Problem.{Problem}
-use Rattle.merge_model.specs.Answers.{profile_of, IsRight, IsNamed, NamesModels}
+use Rattle.merge_model.specs.Answers.{profile_of, IsRight, IsNamed}
 use Rattle.merge_model.specs.Merging.{LacksModel, models_of}
 use Rattle.merge_model.specs.Plain.{first_of}
 use Rattle.merge_model.proofs.Best.{not_true}

@@ -1,4 +1,4 @@
-use Rattle.std.proofs.Common.{◌≡◌, ◌∙◌, List, Bool, ℕ, ap, subst, sym}
+use Rattle.std.proofs.Common.{◌∙◌, List, ap, subst, sym}
 use Rattle.std.specs.List.{AllZip}
 use Rattle.merge_model.specs.declared.answer.Verdict.{Verdict}
 use Rattle.merge_model.specs.Answers.{profile_of, IsVerdict}

@@ -1,4 +1,4 @@
-use Rattle.std.proofs.Common.{◌≡◌, drop, length}
+use Rattle.std.proofs.Common.{◌≡◌, drop}
 use Rattle.merge_model.specs.Plain.{nearest_from, nearest_of}
 use Rattle.merge_model.proofs.plain.nearest.nearest.Given as goal
 

@@ -1,5 +1,4 @@
-use Rattle.std.proofs.Common.{length, List, Bool, All, map, subst, sym, ◌∙◌, ◌≡◌}
-use Rattle.merge_model.specs.Plain.{nearest_of}
+use Rattle.std.proofs.Common.{length, List, Bool, All, subst, sym, ◌∙◌, ◌≡◌}
 use Rattle.merge_model.proofs.Nearest.{nearest_sizes}
 use Rattle.merge_model.proofs.plain.nearest.vector.Goals as goal
 

@@ -1,6 +1,4 @@
-use Rattle.std.proofs.Common.{◌∙◌, ◌≡◌, Bool, true, false, List, ℕ, [], get_or}
-use Rattle.std.specs.Ordering.{is_lt, nat_cmp}
-use Rattle.std.specs.Cmp.Lexicographic.{slice_cmp}
+use Rattle.std.proofs.Common.{◌∙◌}
 use Rattle.merge_model.proofs.Best.{compared, best_taken, best_kept}
 use Rattle.merge_model.proofs.plain.ranked.better_place.Goals as goal
 

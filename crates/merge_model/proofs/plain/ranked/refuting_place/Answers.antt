@@ -1,4 +1,4 @@
-use Rattle.std.proofs.Common.{ℕ, subst, sym, inl, inr}
+use Rattle.std.proofs.Common.{ℕ, subst, inl, inr}
 use Rattle.merge_model.specs.Plain.{Refutes}
 use Rattle.merge_model.proofs.Best.{below_or_at, not_true}
 use Rattle.merge_model.proofs.plain.ranked.refuting_place.Goals as goal

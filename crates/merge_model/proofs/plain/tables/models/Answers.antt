@@ -1,7 +1,6 @@
-use Rattle.std.proofs.Common.{◌≡◌, ◌≤◌, ◌<◌, ◌^◌, ℕ, List, Bool, ◌++◌, ◌∷◌, [], length, filter, ap, sym, ◌∙◌, arith, append-nil}
+use Rattle.std.proofs.Common.{◌++◌, ◌∷◌, [], length, filter, ap, sym, ◌∙◌, arith, append-nil}
 use Rattle.std.proofs.lemmas.Nat.{one_shl}
 use Rattle.formulas.specs.Formulas.{holds}
-use Rattle.formulas.specs.Words.{word_of, all_words}
 use Rattle.formulas.specs.WordLaws.{word_size}
 use Rattle.merge_model.specs.Merging.{models_of}
 use Rattle.merge_model.proofs.Words.{walk_more, walk_done}
