@@ -10,3 +10,6 @@ pub use assignment::Assignment;
 pub use clause::{Clause, has_lit};
 pub use clause_list::ClauseList;
 pub use lit::Lit;
+
+#[cfg(test)]
+mod tests;

@@ -1,0 +1,5 @@
+use Rattle.log_checker.proofs.Sound.{step_sound}
+use Rattle.log_checker.proofs.laws.step_law.Goals as goal
+
+pub returns : goal.returns
+returns c = step_sound
