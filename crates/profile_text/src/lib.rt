@@ -1,0 +1,6 @@
+// The problem text: read and written.
+#![tactic(auto)]
+
+mod writing;
+
+pub use writing::{canonical_text, write_problem};
