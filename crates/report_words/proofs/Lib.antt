@@ -1,0 +1,3 @@
+pub mod FirstWords
+pub mod Numerals
+pub mod Spelling
