@@ -6,3 +6,6 @@ pub mod OpenBrackets
 pub mod Outcomes
 pub mod Sound
 pub mod TokenSizes
+pub mod Canonical
+pub mod WordTokens
+pub mod ReadBack

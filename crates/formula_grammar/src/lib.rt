@@ -1,6 +1,7 @@
 // The grammar of formulas: which formula a text spells, and reading it.
 #![tactic(auto)]
 
+mod laws;
 mod makers;
 mod read;
 mod run;
@@ -13,5 +14,6 @@ mod tests;
 
 pub use formula_text::write_formula;
 pub use formulas::{Atoms, Formula, Valuation};
+pub use laws::{canonical_text_is_read_back, each_text_has_one_outcome};
 pub use read::{FormulaStop, read_formula, read_tokens};
 pub use symbols::node_count;
