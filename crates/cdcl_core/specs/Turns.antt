@@ -1,10 +1,8 @@
 -- What a turn of the solver does to the log.
 use Rattle.std.specs.Prelude.{◌≡◌, ℕ, Bool, true, false, List, [], ◌∷◌, ◌++◌, ◌⊎◌}
-use Rattle.clause_store.specs.declared.lit.Lit.{Lit}
 use Rattle.derivation_log.specs.Logs.{Log, is_learned}
 use Rattle.derivation_log.specs.declared.step.Step.{Step}
-use Rattle.solver_laws.specs.Ready.{IsLog, IsBarredBy}
-use Rattle.std.specs.List.{AllByRecursion}
+use Rattle.solver_laws.specs.Ready.{IsLog}
 
 -- one learned step was appended
 abbrev pub IsLearned : Log → Log → Type 0
@@ -16,7 +14,3 @@ pub record IsKept (old new : Log) : Type 0 where
   pub main : new.main ≡ old.main
   pub vars : new.vars ≡ old.vars
   pub steps : (new.steps ≡ old.steps) ⊎ IsLearned old new
-
--- a claimed step was appended that refutes the assumptions
-abbrev pub IsClaimed : Log → Log → List Lit → Type 0
-IsClaimed old new assumptions = (s : Step) × (is_learned s.kind ≡ false) × AllByRecursion (IsBarredBy assumptions) s.clause × (let l : Log = record old { steps = old.steps ++ s ∷ [] } in new ≡ l)

@@ -29,7 +29,7 @@ fn level_at(trail: &Trail, lit: Lit) -> u32
     ensures within { result ≤ trail.now.level }
     ensures room { (k : ℕ) → room_in (value_of (upto k trail.now.entries) lit) ≡ (if nat_lt k result then 1 else 0) }
 {
-    let _ = trail.len();
+    trail.facts();
     match trail.level_of(lit.var) {
         Some(level) => level,
         None => 0,
@@ -90,6 +90,7 @@ pub fn learn<P: Propagator>(
     let mut clause = Clause::from_sorted(alloc, known.clause(first))?;
     let mut spare = Clause::empty(alloc);
     let mut chain = Vec::new(alloc);
+    trail.facts();
     let mut left = trail.len();
     let mut count = count_at(clause.lits(), trail);
     'back: while count > 1 {
@@ -135,6 +136,7 @@ pub fn claim<P: Propagator>(
     let mut clause = Clause::from_sorted(alloc, known.clause(first))?;
     let mut spare = Clause::empty(alloc);
     let mut chain = Vec::new(alloc);
+    trail.facts();
     let mut left = trail.len();
     'back: while left > 0 {
         left -= 1;

@@ -21,7 +21,7 @@ pub fn choose(assumptions: &[Lit], trail: &Trail) -> Choice
     requires { InRange trail.now.vars assumptions.now }
     ensures { IsChosen assumptions.now trail.now result }
 {
-    let _ = trail.len();
+    trail.facts();
     for lit in assumptions {
         match trail.value(*lit) {
             Some(true) => {}
@@ -45,7 +45,7 @@ pub fn choose(assumptions: &[Lit], trail: &Trail) -> Choice
 pub fn values(alloc: Global, trail: &Trail) -> Result<Assignment, NoMemory>
     ensures { IfOk result (λ made. HasValues trail.now made) }
 {
-    let _ = trail.len();
+    trail.facts();
     let mut made = Assignment::new(alloc, trail.vars())?;
     for index in 0..trail.vars() {
         let lit = Lit {

@@ -7,7 +7,8 @@ ghost use Rattle.solver_laws.specs.Ready.{IsFalseIn, IsLesson, IsBarred, IsBarre
 ghost use Rattle.std.specs.List.{AllByRecursion};
 ghost use Rattle.cdcl_core.specs.Asking.{IsAsking, IsTurn};
 ghost use Rattle.clause_store.specs.Lits.{InRange};
-ghost use Rattle.cdcl_core.specs.Turns.{IsKept, IsClaimed, IsLearned};
+ghost use Rattle.cdcl_core.specs.Turns.{IsKept, IsLearned};
+ghost use Rattle.cdcl_core.specs.Replies.{IsClaimed};
 
 use crate::analysis::{Lesson, back_level, claim};
 use crate::choice::{Choice, choose};
@@ -48,7 +49,7 @@ pub fn retreat<P: Propagator>(log: &Derivations, trail: &mut Trail, propagator: 
     ensures vars { P.vars propagator.new ≡ P.vars propagator.old }
 {
     let _ = log;
-    let _ = trail.len();
+    trail.facts();
     if level < trail.level() {
         trail.back_to(level);
         propagator.undo(trail);
@@ -69,7 +70,7 @@ pub fn open<P: Propagator>(log: &Derivations, trail: &mut Trail, propagator: &P,
 {
     let _ = log;
     let _ = propagator;
-    let _ = trail.len();
+    trail.facts();
     trail.decide(lit);
 }
 
@@ -154,13 +155,13 @@ pub fn descend<P: Propagator>(
     ensures turn { IsTurn assumptions.now result.0 (P.attached propagator.new) trail.new result.1 }
     ensures vars { trail.new.vars ≡ trail.old.vars }
 {
-    let _ = trail.len();
+    trail.facts();
     let mut assumed = assumed;
     'down: loop {
         if let Some(number) = settle(log, trail, propagator) {
             return (assumed, Turn::Conflict(number));
         }
-        let _ = trail.len();
+        trail.facts();
         match choose(assumptions, trail) {
             Choice::Contrary(lit) => return (assumed, Turn::Contrary(lit)),
             Choice::Assume(lit) => {

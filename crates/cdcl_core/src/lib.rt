@@ -1,11 +1,12 @@
-// A solver that learns from conflicts and keeps a log of what it learned.
+// A solver that learns from conflicts, under assumptions, and keeps a log of what it learned.
 #![tactic(auto)]
 
 mod analysis;
 mod choice;
 mod engine;
+mod reply;
 mod searching;
 mod solver;
 
-pub use searching::Reply;
+pub use reply::Reply;
 pub use solver::Solver;

@@ -5,26 +5,20 @@ ghost use Rattle.clause_store.specs.Lits.{InRange};
 ghost use Rattle.derivation_log.specs.Logs.{Log, known_of};
 ghost use Rattle.watch_lists.specs.Trace.{Trace, value_of, IsComplete};
 ghost use Rattle.solver_laws.specs.Ready.{IsReady, IsLog, DecidesOnly};
-ghost use Rattle.cdcl_core.specs.Turns.{IsKept, IsClaimed};
+ghost use Rattle.cdcl_core.specs.Turns.{IsKept};
 ghost use Rattle.cdcl_core.specs.Asking.{IsAsking, IsTurn};
-ghost use Rattle.cdcl_core.specs.Replies.{IsAnswered};
+ghost use Rattle.cdcl_core.specs.Replies.{IsAnswered, IsLonger, IsClaimed};
 ghost use Rattle.cdcl_core.specs.Choices.{HasValues};
 
 use crate::analysis::learn;
 use crate::choice::values;
 use crate::engine::{Turn, descend, keep, refute, retreat};
-use clause_store::{Assignment, Lit};
+use crate::reply::Reply;
+use clause_store::Lit;
 use derivation_log::Derivations;
 use edge::NoMemory;
 use std::alloc::Global;
 use watch_lists::{Propagator, Trail};
-
-#[derive(Drop)]
-pub enum Reply {
-    Found(Assignment),
-    Refuted(u64),
-    GaveUp(u64),
-}
 
 // Appends the claimed step for an assumption that is false.
 fn refute_contrary<P: Propagator>(
@@ -45,7 +39,7 @@ fn refute_contrary<P: Propagator>(
     ensures err { OnErr result (log.new ≡ log.old) }
     ensures ready { IsReady log.new (P.attached propagator.now) (P.followed propagator.now) (P.vars propagator.now) trail.now }
 {
-    let _ = trail.len();
+    trail.facts();
     match trail.reason_of(lit.var) {
         Some(first) => {
             let number = refute(alloc, log, trail, propagator, first, assumptions)?;
@@ -72,10 +66,9 @@ pub fn search<P: Propagator>(
     ensures rest { OnOk result (trail.new.level ≡ 0) }
     ensures answered { IfOk result (λ reply. IsAnswered log.old log.new assumptions.now budget reply) }
     ensures log { IsLog log.new }
-    ensures main { log.new.main ≡ log.old.main }
-    ensures log_vars { log.new.vars ≡ log.old.vars }
+    ensures longer { IsLonger log.old log.new }
 {
-    let _ = trail.len();
+    trail.facts();
     let begin = log.known().len();
     let mut assumed = 0;
     for turn in 0..budget {

@@ -2,20 +2,22 @@
 
 ghost use Rattle.std.specs.Prelude.{◌≡◌, ◌≢◌, ◌+◌, ◌<◌, ◌≤◌, [], ◌∷◌, ◌++◌, Bool, true, false, length, take, map, IfOk, OnOk, OnErr, IsErr, AllPairs, ◌^◌};
 ghost use Rattle.clause_store.specs.Lits.{InRange};
-ghost use Rattle.derivation_log.specs.Logs.{Log, known_of};
+ghost use Rattle.derivation_log.specs.Logs.{Log, known_of, learned_of, IsSound, IsNew};
 ghost use Rattle.watch_lists.specs.Trace.{Trace, StandIn, Attached};
-ghost use Rattle.solver_laws.specs.Ready.{IsLog};
-ghost use Rattle.cdcl_core.specs.Replies.{IsAnswered};
-ghost use Rattle.cdcl_core.specs.State.{State, IsNotSpent};
+ghost use Rattle.solver_laws.specs.Ready.{IsLog, AllFit};
+ghost use Rattle.cdcl_core.specs.Replies.{IsAnswered, IsLonger, IsDecided};
+ghost use Rattle.cdcl_core.specs.State.{State};
 
-use crate::searching::{Reply, search};
+use crate::reply::Reply;
+use crate::searching::search;
 use clause_store::{ClauseList, Lit};
 use derivation_log::Derivations;
 use edge::NoMemory;
 use std::alloc::Global;
 use std::marker::Model;
-use watch_lists::{Propagator, Scan, Trail};
+use watch_lists::{Propagator, Trail};
 
+/// A solver over a main list of clauses, which keeps a log of the steps that it learns and claims.
 #[derive(Drop)]
 pub struct Solver<P: Propagator + Drop> {
     log: Derivations,
@@ -37,35 +39,7 @@ impl<P: Propagator + Drop> Model for Solver<P> {
 }
 
 impl<P: Propagator + Drop> Solver<P> {
-    /// Asks whether the main clauses can hold where the assumptions do.
-    pub fn ask(&mut self, assumptions: &[Lit], budget: u64) -> Result<Reply, NoMemory>
-        requires in_range { InRange self.old.log.vars assumptions.now }
-        requires distinct { AllPairs (λ a b. a.var ≢ b.var) assumptions.now }
-        requires budget { 1 ≤ budget }
-        ensures log { IsLog self.new.log }
-        ensures main { self.new.log.main ≡ self.old.log.main }
-        ensures vars { self.new.log.vars ≡ self.old.log.vars }
-        ensures answered { IfOk result (λ reply. IsAnswered self.old.log self.new.log assumptions.now budget reply) }
-        ensures enough { 3 ^ self.old.log.vars ≤ budget → IfOk result IsNotSpent }
-        ensures failed { OnErr result (self.new.failed ≡ true) }
-        ensures fails_on { self.old.failed ≡ true → IsErr result }
-    {
-        if self.failed {
-            return Err(NoMemory);
-        }
-        self.failed = true;
-        let reply = search(
-            self.alloc,
-            &mut self.log,
-            &mut self.trail,
-            &mut self.propagator,
-            assumptions,
-            budget,
-        )?;
-        self.failed = false;
-        Ok(reply)
-    }
-
+    /// A solver of the main clauses, with a log of no step.
     pub fn new(alloc: Global, main: ClauseList) -> Result<Solver<P>, NoMemory>
         ensures { IfOk result (λ s. s ≡ record { log = record { main = main.list; vars = main.vars; steps = [] }; failed = false }) }
     {
@@ -83,10 +57,69 @@ impl<P: Propagator + Drop> Solver<P> {
         })
     }
 
+    /// The log of what was learned and claimed so far.
     pub fn derivations(&self) -> &Derivations
-        ensures { result.now ≡ self.now.log }
+        ensures log { result.now ≡ self.now.log }
+        ensures sound { IsLog self.now.log }
     {
         &self.log
+    }
+
+    /// The log as it stands.
+    pub fn into_derivations(self) -> Derivations
+        ensures log { result ≡ self.log }
+        ensures sound { IsLog self.log }
+    {
+        let Solver {
+            log,
+            trail: _,
+            propagator: _,
+            failed: _,
+            alloc: _,
+        } = self;
+        log
+    }
+
+    /// Asks whether some assignment makes the main clauses and the assumptions true. At most `budget` steps are
+    /// learned; with the last of them the question is given up, if it is not answered before. Once memory is
+    /// wanting, every later question answers so, and the log still has steps alone that follow.
+    pub fn ask(&mut self, assumptions: &[Lit], budget: u64) -> Result<Reply, NoMemory>
+        requires in_range { InRange self.old.log.vars assumptions.now }
+        requires distinct { AllPairs (λ a b. a.var ≢ b.var) assumptions.now }
+        requires budget { 1 ≤ budget }
+
+        // The log grows at its end alone, by steps that follow.
+        ensures grows { IsLonger self.old.log self.new.log }
+        ensures sound { IsSound self.new.log.main self.new.log.steps }
+
+        // Learned clauses include no main clause and no earlier learned one, are not empty, and have no variable
+        // twice, so there are not many.
+        ensures new { IsNew self.new.log.main self.new.log.steps }
+        ensures fit { AllFit self.new.log.vars self.new.log.steps }
+        ensures distinct { AllPairs (λ c d. c ≢ d) (learned_of self.new.log.steps) }
+        ensures few { length (learned_of self.new.log.steps) < 3 ^ self.new.log.vars }
+
+        ensures answered { IfOk result (λ reply. IsAnswered self.old.log self.new.log assumptions.now budget reply) }
+        ensures enough { 3 ^ self.old.log.vars ≤ budget → IfOk result IsDecided }
+
+        ensures ok { OnOk result (self.new.failed ≡ false) }
+        ensures err { OnErr result (self.new.failed ≡ true) }
+        ensures fails_on { self.old.failed ≡ true → IsErr result }
+    {
+        if self.failed {
+            return Err(NoMemory);
+        }
+        self.failed = true;
+        let reply = search(
+            self.alloc,
+            &mut self.log,
+            &mut self.trail,
+            &mut self.propagator,
+            assumptions,
+            budget,
+        )?;
+        self.failed = false;
+        Ok(reply)
     }
 }
 
@@ -110,31 +143,4 @@ fn attach_all<P: Propagator>(
         propagator.attach(log.known(), number, trail)?;
     }
     Ok(())
-}
-
-#[cfg(test)]
-mod tests {
-    use super::*;
-    use std::test::Fail;
-
-    fn lit(var: u32, positive: bool) -> Lit {
-        Lit { var, positive }
-    }
-
-    #[test]
-    fn gives_up_and_then_refutes(rt: HostRuntime) -> Result<(), Fail> {
-        let alloc = rt.alloc();
-        let mut main = ClauseList::new(alloc);
-        let _ = main.fresh();
-        let _ = main.fresh();
-        let _ = main.add(&[lit(1, true), lit(2, true)])?;
-        let _ = main.add(&[lit(1, false), lit(2, true)])?;
-        let _ = main.add(&[lit(1, true), lit(2, false)])?;
-        let _ = main.add(&[lit(1, false), lit(2, false)])?;
-        let mut solver: Solver<Scan> = Solver::new(alloc, main)?;
-        let none: [Lit; 0] = [];
-        assert!(rt; matches!(&solver.ask(&none, 1)?, Reply::GaveUp(4)));
-        assert!(rt; matches!(&solver.ask(&none, 10)?, Reply::Refuted(5)));
-        Ok(())
-    }
 }

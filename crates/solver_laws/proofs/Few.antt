@@ -45,7 +45,7 @@ get_last : (xs : List (List Lit)) (c : List Lit) → get_or (xs ++ c ∷ []) (le
 get_last [] c = refl
 get_last (x ∷ xs) c = get_last xs c
 
-apart : (before : List (List Lit)) (ss : List Step) → IsNew before ss → AllPairs (λ (a b : List Lit). a ≢ b) (learned_of ss)
+pub apart : (before : List (List Lit)) (ss : List Step) → IsNew before ss → AllPairs (λ (a b : List Lit). a ≢ b) (learned_of ss)
 apart before [] n = λ i j d lt h. absurd (omega arith)
 apart before (s ∷ ss) n =
     elim (cases_Bool (is_learned s.kind)) [

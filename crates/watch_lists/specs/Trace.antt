@@ -51,21 +51,45 @@ abbrev pub IsStacked : ℕ → List Entry → Type 0
 IsStacked level [] = level ≡ 0
 IsStacked level (e ∷ es) = (e.level ≡ level) × ((e.reason ≡ None) × ((below : ℕ) × (level ≡ below + 1) × IsStacked below es) ⊎ ((e.reason ≢ None) × IsStacked level es))
 
+-- what every trail keeps
 pub record IsTrace (t : Trace) : Type 0 where
   pub apart : AreApart t.vars t.entries
   pub stacked : IsStacked t.level t.entries
+  pub within : length t.entries ≤ t.vars
+  pub few : t.level ≤ length t.entries
+  pub fits : t.vars < 2 ^ 32
 
--- the row has the entry of each variable
-abbrev pub HasSlots : ℕ → List (Option Entry) → List Entry → Type 0
-HasSlots vars slots es = (v : ℕ) (d : Option Entry) → v < vars → slice_index_or slots v d ≡ entry_of es (v + 1)
+-- the literal of a place, counted from the oldest
+abbrev pub IsAt : ℕ → List Entry → Lit → Type 0
+IsAt k es l = (e : Entry) × (oldest (k + 1) es ≡ e ∷ oldest k es) × (e.lit ≡ l)
 
--- a row of entries, of which so many count, with the entry of each variable
-pub record IsRow (row : List Entry) (len : ℕ) (kept : List (Option Entry)) (level : ℕ) : Type 0 where
-  pub entries : length row ≡ length kept
-  pub apart : AreApart (length kept) (newest len row no_entry)
-  pub slots : HasSlots (length kept) kept (newest len row no_entry)
-  pub count : count_by is_some kept ≡ len
-  pub few : length kept < 2 ^ 32
+-- the sign that an entry gives its variable
+abbrev pub sign_in : Option Entry → Option Bool
+sign_in None = None
+sign_in (Some e) = Some e.lit.positive
+
+-- the row has the sign of each variable
+abbrev pub HasSigns : ℕ → List (Option Bool) → List Entry → Type 0
+HasSigns vars signs es = (v : ℕ) (d : Option Bool) → v < vars → slice_index_or signs v d ≡ sign_in (entry_of es (v + 1))
+
+-- the second row has the place in the first of each entry, by its variable
+abbrev pub HasPlaces : ℕ → List ℕ → List Entry → ℕ → List Entry → Type 0
+HasPlaces vars places row len es =
+    (v : ℕ) (e : Entry) → v < vars → entry_of es (v + 1) ≡ Some e → (slice_index_or places v 0 < len) × (slice_index_or row (slice_index_or places v 0) no_entry ≡ e)
+
+-- a row of entries, of which so many count, with the sign and the place of each variable that has an entry
+pub record IsFilled (row : List Entry) (len : ℕ) (signs : List (Option Bool)) (places : List ℕ) : Type 0 where
+  pub entries : length row ≡ length signs
+  pub rooms : length places ≡ length signs
+  pub apart : AreApart (length signs) (newest len row no_entry)
+  pub has_signs : HasSigns (length signs) signs (newest len row no_entry)
+  pub has_places : HasPlaces (length signs) places row len (newest len row no_entry)
+  pub count : count_by is_some signs ≡ len
+  pub few : length signs < 2 ^ 32
+
+-- such a row whose entries stand at levels up to this one
+pub record IsRow (row : List Entry) (len : ℕ) (signs : List (Option Bool)) (places : List ℕ) (level : ℕ) : Type 0 where
+  pub filled : IsFilled row len signs places
   pub stacked : IsStacked level (newest len row no_entry)
 
 -- what a literal leaves open: 2 where it is true, 1 where it has no value, 0 where it is false

@@ -11,12 +11,15 @@ use edge::NoMemory;
 use std::alloc::Global;
 use std::snapshot::Snapshot;
 
+/// Propagation that goes through all attached clauses until nothing follows any more. It keeps the clauses'
+/// numbers; the clauses themselves and the literals that it has worked off are seen by contracts alone.
 #[derive(Drop)]
 pub struct Scan {
     numbers: Vec<u64>,
     count: u32,
     known: Snapshot<ClauseList>,
     followed: Snapshot<Trail>,
+    // the length of `followed`
     done: usize,
     ghost tied: { done ≡ length followed.value.entries },
 }
@@ -64,9 +67,13 @@ impl Propagator for Scan {
     }
 }
 
+/// What a look at a clause finds.
 pub enum Seen {
+    /// all literals are false
     False,
+    /// this literal has no value, and the others are false
     Unit(Lit),
+    /// some literal is true, or two have no value
     Settled,
 }
 
@@ -94,9 +101,13 @@ fn look(clause: &[Lit], trail: &Trail) -> Seen
     }
 }
 
+/// What going through the clauses once does.
 pub enum Sweep {
+    /// the clause of this number is false
     Conflict(u64),
+    /// some literal was implied
     Moved,
+    /// no clause is false or implies a literal
     Still,
 }
 
@@ -136,32 +147,12 @@ fn sweep_all(numbers: &[u64], known: &ClauseList, trail: &mut Trail) -> Option<u
     ensures level { trail.new.level ≡ trail.old.level }
     ensures vars { trail.new.vars ≡ trail.old.vars }
 {
-    let _ = trail.len();
+    trail.facts();
     loop {
         match sweep_once(numbers, known, trail) {
             Sweep::Conflict(number) => return Some(number),
             Sweep::Moved => {}
             Sweep::Still => return None,
         }
-    }
-}
-
-#[cfg(test)]
-mod tests {
-    use super::*;
-    use std::test::Fail;
-
-    #[test]
-    fn empty_clause_is_false(rt: HostRuntime) -> Result<(), Fail> {
-        let alloc = rt.alloc();
-        let mut known = ClauseList::new(alloc);
-        let mut trail = Trail::empty(alloc);
-        let mut scan = Scan::new(alloc, 0)?;
-        assert!(rt; scan.propagate(&known, &mut trail).is_none());
-        let none: [Lit; 0] = [];
-        let number = known.add(&none)?;
-        scan.attach(&known, number, &trail)?;
-        assert_eq!(rt; scan.propagate(&known, &mut trail), Some(0));
-        Ok(())
     }
 }

@@ -23,16 +23,16 @@ back-init g c =
     let r : InRange vars d = subst (λ (v : ℕ). InRange v d) (sym c.requires.can.vars) c.clause.ensures.in_range in
     let b : AllByRecursion (IsBarred asked es) d = subst (AllByRecursion (IsBarred asked es)) (ap (λ (o : Option (List Lit)). unwrap_or o []) c.clause.ensures.value) c.requires.barred in
     let s : IsClaiming known w vars asked es c.args.first [] d = record {
-      decided = decides_all asked c.args.trail.now.level c.args.trail.now.level es c.len-left.ensures.whole.stacked (omega arith) c.requires.decides;
+      decided = decides_all asked c.args.trail.now.level c.args.trail.now.level es c.facts.ensures.stacked (omega arith) c.requires.decides;
       barred = b;
       justified = c.requires.can.justified;
       lesson = record { follows = (d, c.clause.ensures.value, refl); ascends = c.clause.ensures.ascends; in_range = r };
     } in
-    let o : oldest c.len-left.result es ≡ es = ap (λ (n : ℕ). oldest n es) c.len-left.ensures.len ∙ oldest_all es in
+    let o : oldest c.len-left.result es ≡ es = ap (λ (n : ℕ). oldest n es) c.len-left.ensures ∙ oldest_all es in
     let s1 = subst (λ (rest : List Entry). IsClaiming known w vars asked rest c.args.first [] d) (sym o) s in
     let s2 = subst (λ (cl : List Lit). IsClaiming known w vars asked (oldest c.len-left.result es) c.args.first [] cl) (sym e) s1 in
     record {
-      within = omega (arith, c.len-left.ensures.len);
+      within = omega (arith, c.len-left.ensures);
       claiming = subst (λ (ch : List Link). IsClaiming known w vars asked (oldest c.len-left.result es) c.args.first ch c.in_ok-clause.clause) (sym c.new-chain.ensures.items) s2;
     }
 

@@ -22,7 +22,7 @@ count_at-count-requires-clause-is_false g c =
     let d : List Lit = c.clause.result.now in
     let e : c.in_ok-clause.clause ≡ d = search rules in
     let r : InRange vars d = subst (λ (v : ℕ). InRange v d) (sym c.requires.can.vars) c.clause.ensures.in_range in
-    let s = walk_start known w c.args.trail.now c.args.first d c.requires.can.stand c.requires.can.justified c.len-left.ensures.whole c.requires.level c.requires.complete c.requires.falsified c.clause.ensures.value c.clause.ensures.ascends r in
+    let s = walk_start known w c.args.trail.now c.args.first d c.requires.can.stand c.requires.can.justified c.facts.ensures c.requires.level c.requires.complete c.requires.falsified c.clause.ensures.value c.clause.ensures.ascends r in
     subst (AllByRecursion (IsFalseIn es)) (sym (c.lits.ensures.value ∙ e)) s.whole
 
 pub back-init : goal.back-init
@@ -35,12 +35,12 @@ back-init g c =
     let d : List Lit = c.clause.result.now in
     let e : c.in_ok-clause.clause ≡ d = search rules in
     let r : InRange vars d = subst (λ (v : ℕ). InRange v d) (sym c.requires.can.vars) c.clause.ensures.in_range in
-    let s = walk_start known w c.args.trail.now c.args.first d c.requires.can.stand c.requires.can.justified c.len-left.ensures.whole c.requires.level c.requires.complete c.requires.falsified c.clause.ensures.value c.clause.ensures.ascends r in
-    let o : oldest c.len-left.result es ≡ es = ap (λ (n : ℕ). oldest n es) c.len-left.ensures.len ∙ oldest_all es in
+    let s = walk_start known w c.args.trail.now c.args.first d c.requires.can.stand c.requires.can.justified c.facts.ensures c.requires.level c.requires.complete c.requires.falsified c.clause.ensures.value c.clause.ensures.ascends r in
+    let o : oldest c.len-left.result es ≡ es = ap (λ (n : ℕ). oldest n es) c.len-left.ensures ∙ oldest_all es in
     let s1 = subst (λ (rest : List Entry). IsWalked known w vars low rest es c.args.first [] d) (sym o) s in
     let s2 = subst (λ (cl : List Lit). IsWalked known w vars low (oldest c.len-left.result es) es c.args.first [] cl) (sym e) s1 in
     record {
-      within = omega (arith, c.len-left.ensures.len);
+      within = omega (arith, c.len-left.ensures);
       walked = subst (λ (ch : List Link). IsWalked known w vars low (oldest c.len-left.result es) es c.args.first ch c.in_ok-clause.clause) (sym c.new-chain.ensures.items) s2;
       counted = c.count_at-count.ensures ∙ ap (room_of low) c.lits.ensures.value;
     }
@@ -90,7 +90,7 @@ count_at-count-requires-then-has-clause-in_range g c =
     let d : List Lit = c.clause-then-has.result.now in
     let r : InRange vars d = subst (λ (v : ℕ). InRange v d) (sym c.requires.can.vars) c.clause-then-has.ensures.in_range in
     let h : has p cl ≡ true = sym c.has.ensures ∙ c.if-has.true in
-    let s = walk_step known w vars c.args.first low rest es c.entry-entry.result c.back.chain.items cl d p c.in-Some.number c.requires.can.stand c.requires.complete c.negated-pivot.ensures x c.in-Some.is c.clause-then-has.ensures.value c.clause-then-has.ensures.ascends r h (λ z f. walk_whole vars (c.back.left - 1) es z c.len-left.ensures.whole.apart f) in
+    let s = walk_step known w vars c.args.first low rest es c.entry-entry.result c.back.chain.items cl d p c.in-Some.number c.requires.can.stand c.requires.complete c.negated-pivot.ensures x c.in-Some.is c.clause-then-has.ensures.value c.clause-then-has.ensures.ascends r h (λ z f. walk_whole vars (c.back.left - 1) es z c.facts.ensures.apart f) in
     let made : c.in_ok-made.made ≡ resolvent p cl d = c.in_ok-made.ensures in
     let same : c.lits-then-has.result.now ≡ resolvent p cl d = c.lits-then-has.ensures.value ∙ made in
     subst (InRange vars) (sym same) s.lesson.in_range
@@ -110,7 +110,7 @@ count_at-count-requires-then-has-clause-is_false g c =
     let d : List Lit = c.clause-then-has.result.now in
     let r : InRange vars d = subst (λ (v : ℕ). InRange v d) (sym c.requires.can.vars) c.clause-then-has.ensures.in_range in
     let h : has p cl ≡ true = sym c.has.ensures ∙ c.if-has.true in
-    let s = walk_step known w vars c.args.first low rest es c.entry-entry.result c.back.chain.items cl d p c.in-Some.number c.requires.can.stand c.requires.complete c.negated-pivot.ensures x c.in-Some.is c.clause-then-has.ensures.value c.clause-then-has.ensures.ascends r h (λ z f. walk_whole vars (c.back.left - 1) es z c.len-left.ensures.whole.apart f) in
+    let s = walk_step known w vars c.args.first low rest es c.entry-entry.result c.back.chain.items cl d p c.in-Some.number c.requires.can.stand c.requires.complete c.negated-pivot.ensures x c.in-Some.is c.clause-then-has.ensures.value c.clause-then-has.ensures.ascends r h (λ z f. walk_whole vars (c.back.left - 1) es z c.facts.ensures.apart f) in
     let made : c.in_ok-made.made ≡ resolvent p cl d = c.in_ok-made.ensures in
     let same : c.lits-then-has.result.now ≡ resolvent p cl d = c.lits-then-has.ensures.value ∙ made in
     subst (AllByRecursion (IsFalseIn es)) (sym same) s.whole
@@ -130,7 +130,7 @@ back-preserved-then-has g c =
     let d : List Lit = c.clause-then-has.result.now in
     let r : InRange vars d = subst (λ (v : ℕ). InRange v d) (sym c.requires.can.vars) c.clause-then-has.ensures.in_range in
     let h : has p cl ≡ true = sym c.has.ensures ∙ c.if-has.true in
-    let s = walk_step known w vars c.args.first low rest es c.entry-entry.result c.back.chain.items cl d p c.in-Some.number c.requires.can.stand c.requires.complete c.negated-pivot.ensures x c.in-Some.is c.clause-then-has.ensures.value c.clause-then-has.ensures.ascends r h (λ z f. walk_whole vars (c.back.left - 1) es z c.len-left.ensures.whole.apart f) in
+    let s = walk_step known w vars c.args.first low rest es c.entry-entry.result c.back.chain.items cl d p c.in-Some.number c.requires.can.stand c.requires.complete c.negated-pivot.ensures x c.in-Some.is c.clause-then-has.ensures.value c.clause-then-has.ensures.ascends r h (λ z f. walk_whole vars (c.back.left - 1) es z c.facts.ensures.apart f) in
     let made : c.in_ok-made.made ≡ resolvent p cl d = c.in_ok-made.ensures in
     let same : c.lits-then-has.result.now ≡ resolvent p cl d = c.lits-then-has.ensures.value ∙ made in
     let chain : c.push.new.self.items ≡ c.back.chain.items ++ record { pivot = p; number = c.in-Some.number } ∷ [] = c.in_ok-push.ensures.items in

@@ -16,12 +16,12 @@ returns-in-Full-clause-asking g c = asking_settled c.args.assumptions.now c.down
 pub returns-in-Contrary-clause-turn : goal.returns-in-Contrary-clause-turn
 returns-in-Contrary-clause-turn g c =
     let a = asking_settled c.args.assumptions.now c.down.assumed c.down.trail c.settle.new.trail c.down.invariant.asking c.settle.ensures.level c.settle.ensures.below (c.settle.ensures.decides c.args.assumptions.now c.down.assumed c.down.invariant.asking.decides) in
-    (c.in-Contrary.ensures.0, c.in-Contrary.ensures.1, asking_all c.args.assumptions.now c.down.assumed c.settle.new.trail c.in-Contrary.lit a c.len-in-down.ensures.whole c.in-Contrary.ensures.0 (λ h. (let z = sym c.in-Contrary.ensures.1 ∙ h in absurd (cc))))
+    (c.in-Contrary.ensures.0, c.in-Contrary.ensures.1, asking_all c.args.assumptions.now c.down.assumed c.settle.new.trail c.in-Contrary.lit a c.facts-in-down.ensures c.in-Contrary.ensures.0 (λ h. (let z = sym c.in-Contrary.ensures.1 ∙ h in absurd (cc))))
 
 pub down-preserved-in-Assume : goal.down-preserved-in-Assume
 down-preserved-in-Assume g c =
     let a = asking_settled c.args.assumptions.now c.down.assumed c.down.trail c.settle.new.trail c.down.invariant.asking c.settle.ensures.level c.settle.ensures.below (c.settle.ensures.decides c.args.assumptions.now c.down.assumed c.down.invariant.asking.decides) in
-    let b = asking_assumed c.args.assumptions.now c.down.assumed c.settle.new.trail c.open.new.trail c.in-Assume.lit a c.len-in-down.ensures.whole c.in-Assume.ensures.0 c.in-Assume.ensures.1 c.open.ensures.trail in
+    let b = asking_assumed c.args.assumptions.now c.down.assumed c.settle.new.trail c.open.new.trail c.in-Assume.lit a c.facts-in-down.ensures c.in-Assume.ensures.0 c.in-Assume.ensures.1 c.open.ensures.trail in
     record {
       ready = c.open.ensures.ready;
       asking = subst (λ (k : ℕ). IsAsking c.args.assumptions.now k c.open.new.trail) (sym c.level-assumed.ensures) b;
@@ -34,7 +34,7 @@ down-preserved g c =
     let a = asking_settled c.args.assumptions.now c.down.assumed c.down.trail c.settle.new.trail c.down.invariant.asking c.settle.ensures.level c.settle.ensures.below (c.settle.ensures.decides c.args.assumptions.now c.down.assumed c.down.invariant.asking.decides) in
     record {
       ready = c.open-in-Free.ensures.ready;
-      asking = asking_freed c.args.assumptions.now c.down.assumed c.settle.new.trail c.open-in-Free.new.trail c.in-Free.lit a c.len-in-down.ensures.whole c.in-Free.ensures.0 c.open-in-Free.ensures.trail;
+      asking = asking_freed c.args.assumptions.now c.down.assumed c.settle.new.trail c.open-in-Free.new.trail c.in-Free.lit a c.facts-in-down.ensures c.in-Free.ensures.0 c.open-in-Free.ensures.trail;
       within = c.open-in-Free.ensures.within;
       vars = ap (λ (t : Trace). t.vars) c.open-in-Free.ensures.trail ∙ c.settle.ensures.trail_vars ∙ c.down.invariant.vars;
     }

@@ -19,4 +19,4 @@ returns-clause-ready g c =
     let f : List Place = g.P.Propagator.followed c.args.propagator.now in
     let n : ℕ = g.P.Propagator.vars c.args.propagator.now in
     subst (IsReady c.args.log.now w f n) (sym c.decide.ensures.after)
-    (ready_opened c.args.log.now w f n c.args.trail.now c.args.lit c.requires.ready c.requires.complete c.requires.followed c.len.ensures.whole.stacked)
+    (ready_opened c.args.log.now w f n c.args.trail.now c.args.lit c.requires.ready c.requires.complete c.requires.followed c.facts.ensures.stacked)

@@ -42,5 +42,5 @@ trace_is t k p q = make t.vars t.level k t.entries (upto k t.entries) p q
 pub returns-else-level-clause-trail : goal.returns-else-level-clause-trail
 returns-else-level-clause-trail g c =
     let e : c.args.trail.now.level ≡ c.args.level = omega (arith, c.if-level.false, c.level.ensures, c.requires.level) in
-    let st : IsStacked c.args.level c.args.trail.now.entries = subst (λ (k : ℕ). IsStacked k c.args.trail.now.entries) e c.len.ensures.whole.stacked in
+    let st : IsStacked c.args.level c.args.trail.now.entries = subst (λ (k : ℕ). IsStacked k c.args.trail.now.entries) e c.facts.ensures.stacked in
     trace_is c.args.trail.now c.args.level e (upto_whole c.args.level c.args.trail.now.entries st)

@@ -28,7 +28,7 @@ refute-requires-clause-within g c =
     let w : List Attached = g.P.Propagator.attached c.args.propagator.now in
     let a = against c.args.trail.now.entries c.args.lit c.requires.is_false in
     let r : a.entry.reason ≡ Some c.in-Some.first = sym (ap reason_in a.at) ∙ sym c.in-Some.ensures in
-    let s = reason_of_entry w c.args.trail.now.vars c.args.lit.var c.args.trail.now.entries a.entry c.in-Some.first c.requires.ready.justified c.len.ensures.whole.apart a.at r in
+    let s = reason_of_entry w c.args.trail.now.vars c.args.lit.var c.args.trail.now.entries a.entry c.in-Some.first c.requires.ready.justified c.facts.ensures.apart a.at r in
     slice_get_within (known_of c.args.log.now) c.in-Some.first s.0 (contains_all (λ (x : Attached). slice_get (known_of c.args.log.now) x.number ≡ Some x.clause) w (record { number = c.in-Some.first; clause = s.0 }) c.requires.ready.stand s.1)
 
 pub refute-requires-clause-barred : goal.refute-requires-clause-barred
@@ -36,7 +36,7 @@ refute-requires-clause-barred g c =
     let w : List Attached = g.P.Propagator.attached c.args.propagator.now in
     let a = against c.args.trail.now.entries c.args.lit c.requires.is_false in
     let r : a.entry.reason ≡ Some c.in-Some.first = sym (ap reason_in a.at) ∙ sym c.in-Some.ensures in
-    let s = reason_of_entry w c.args.trail.now.vars c.args.lit.var c.args.trail.now.entries a.entry c.in-Some.first c.requires.ready.justified c.len.ensures.whole.apart a.at r in
+    let s = reason_of_entry w c.args.trail.now.vars c.args.lit.var c.args.trail.now.entries a.entry c.in-Some.first c.requires.ready.justified c.facts.ensures.apart a.at r in
     let q = contains_all (λ (x : Attached). slice_get (known_of c.args.log.now) x.number ≡ Some x.clause) w (record { number = c.in-Some.first; clause = s.0 }) c.requires.ready.stand s.1 in
     let e : clause_at (known_of c.args.log.now) c.in-Some.first ≡ s.0 = ap (λ (o : Option (List Lit)). unwrap_or o []) q in
     subst (AllByRecursion (IsBarred c.args.assumptions.now c.args.trail.now.entries)) (sym e) (contrary_barred c.args.assumptions.now c.args.trail.now.entries c.args.lit a.entry.lit s.0 a.lit c.requires.asked s.3)
@@ -45,5 +45,5 @@ pub unreachable-requires : goal.unreachable-requires
 unreachable-requires g c =
     let a = against c.args.trail.now.entries c.args.lit c.requires.is_false in
     let r : a.entry.reason ≡ None = sym (ap reason_in a.at) ∙ sym c.in-None.ensures in
-    let d = decides_all c.args.assumptions.now c.args.trail.now.level c.args.trail.now.level c.args.trail.now.entries c.len.ensures.whole.stacked (omega arith) c.requires.decides in
+    let d = decides_all c.args.assumptions.now c.args.trail.now.level c.args.trail.now.level c.args.trail.now.entries c.facts.ensures.stacked (omega arith) c.requires.decides in
     no_opposite c.args.assumptions.now c.args.lit c.requires.distinct c.requires.asked (subst (λ (x : Lit). has x c.args.assumptions.now ≡ true) a.lit (decided_entry c.args.assumptions.now c.args.lit.var c.args.trail.now.entries a.entry d a.at r))

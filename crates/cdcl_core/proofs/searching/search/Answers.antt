@@ -14,7 +14,7 @@ use Rattle.cdcl_core.proofs.searching.search.Goals as goal
 
 pub loop-turn-init : goal.loop-turn-init
 loop-turn-init g c =
-    let st : IsStacked 0 c.args.trail.now.entries = subst (λ (k : ℕ). IsStacked k c.args.trail.now.entries) c.requires.rest c.len.ensures.whole.stacked in
+    let st : IsStacked 0 c.args.trail.now.entries = subst (λ (k : ℕ). IsStacked k c.args.trail.now.entries) c.requires.rest c.facts.ensures.stacked in
     record {
       ready = c.requires.ready;
       asking = record { le = omega arith; decides = decides_none c.args.assumptions.now 0 c.args.trail.now.entries st; free = λ h. absurd (omega (arith, c.requires.rest)) };
@@ -50,11 +50,15 @@ returns-in-Full-clause-answered g c =
     let r2 = subst (AreInRange t.vars) k r1 in
     let at : map (λ (a : Attached). a.clause) w ≡ c.args.log.now.main ++ learned_of c.loop-turn.log.steps = c.descend-opened.ensures.ready.attached ∙ ap (λ (m : List (List Lit)). m ++ learned_of c.loop-turn.log.steps) c.loop-turn.invariant.grown.main in (
       c.loop-turn.turn,
-      c.loop-turn.invariant.grown,
       omega (arith, c.loop-turn-test.true),
-      c.in_ok-found-in-Full.ensures.size ∙ sym lv,
-      main_found t c.in_ok-found-in-Full.found c.args.log.now.main (learned_of c.loop-turn.log.steps) w c.in_ok-found-in-Full.ensures f.2 (main_range c.args.log.now t.vars r2) at f.0,
-      asked_found t c.in_ok-found-in-Full.found c.args.assumptions.now c.in_ok-found-in-Full.ensures (subst (λ (n : ℕ). InRange n c.args.assumptions.now) (sym v) c.requires.in_range) f.1,
+      c.loop-turn.invariant.grown,
+      record {
+        size = c.in_ok-found-in-Full.ensures.size ∙ sym lv;
+        clauses =
+            main_found t c.in_ok-found-in-Full.found c.args.log.now.main (learned_of c.loop-turn.log.steps) w c.in_ok-found-in-Full.ensures f.2 (main_range c.args.log.now t.vars r2) at f.0;
+        assumptions =
+            asked_found t c.in_ok-found-in-Full.found c.args.assumptions.now c.in_ok-found-in-Full.ensures (subst (λ (n : ℕ). InRange n c.args.assumptions.now) (sym v) c.requires.in_range) f.1;
+      },
     )
 
 pub loop-turn-preserved : goal.loop-turn-preserved

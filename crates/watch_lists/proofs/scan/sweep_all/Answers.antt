@@ -4,7 +4,7 @@ use Rattle.watch_lists.proofs.Scans.{grows_on}
 use Rattle.watch_lists.proofs.scan.sweep_all.Goals as goal
 
 pub loop-number-init : goal.loop-number-init
-loop-number-init c = record { vars = refl; level = refl; within = omega (arith, c.len.ensures.len, c.len.ensures.within); grows = Same c.args.trail.now.entries }
+loop-number-init c = record { vars = refl; level = refl; within = c.facts.ensures.within; grows = Same c.args.trail.now.entries }
 
 pub loop-number-preserved : goal.loop-number-preserved
 loop-number-preserved c =

@@ -7,11 +7,12 @@ use Rattle.std.proofs.lemmas.Bool.{cases_Bool}
 use Rattle.clause_store.specs.declared.lit.Lit.{Lit}
 use Rattle.derivation_log.specs.Logs.{learned_of, is_learned}
 use Rattle.derivation_log.specs.declared.step.Step.{Step}
-use Rattle.solver_laws.proofs.Few.{few_learned}
-use Rattle.cdcl_core.specs.Replies.{IsGrown, AllLearned}
-use Rattle.cdcl_core.specs.declared.searching.Reply.{Reply}
-use Rattle.cdcl_core.specs.declared.searching.Reply.TheVariants.{Found, Refuted, GaveUp}
-use Rattle.cdcl_core.specs.State.{State, IsNotSpent}
+use Rattle.solver_laws.specs.Ready.{IsLog}
+use Rattle.solver_laws.proofs.Few.{few_learned, apart}
+use Rattle.cdcl_core.specs.Replies.{IsGrown, IsLonger, AllLearned, IsDecided}
+use Rattle.cdcl_core.specs.declared.reply.Reply.{Reply}
+use Rattle.cdcl_core.specs.declared.reply.Reply.TheVariants.{Found, Refuted, GaveUp}
+use Rattle.cdcl_core.specs.State.{State}
 use Rattle.cdcl_core.proofs.solver.Solver.ask.Goals as goal
 
 pub returns-clause-answered : goal.returns-clause-answered
@@ -25,10 +26,10 @@ more_counted : (xs ys : List Step) → length (learned_of ys) ≤ length (learne
 more_counted [] ys = omega arith
 more_counted (x ∷ xs) ys = elim (cases_Bool (is_learned x.kind)) [ inl t ↦ rw t (omega (arith, more_counted xs ys)) | inr t ↦ rw t (more_counted xs ys) ]
 
-not_spent : (old new : Log) (asked : List Lit) (budget : ℕ) (r : Reply) → 3 ^ old.vars ≤ budget → IsAnswered old new asked budget r → IsNotSpent r
-not_spent old new asked budget (Found values) h a = tt
-not_spent old new asked budget (Refuted n) h a = tt
-not_spent old new asked budget (GaveUp n) h a =
+decided : (old new : Log) (asked : List Lit) (budget : ℕ) (r : Reply) → 3 ^ old.vars ≤ budget → IsAnswered old new asked budget r → IsDecided r
+decided old new asked budget (Found values) h a = tt
+decided old new asked budget (Refuted n) h a = tt
+decided old new asked budget (GaveUp n) h a =
     let f = few_learned new a.0.log in
     let v = ap (λ (k : ℕ). 3 ^ k) a.0.vars in
     let m = all_counted a.0.steps.0 a.0.steps.2 in
@@ -36,4 +37,27 @@ not_spent old new asked budget (GaveUp n) h a =
     omega (arith, f, v, m, q, more_counted old.steps a.0.steps.0, a.0.steps.3, h)
 
 pub returns-clause-enough : goal.returns-clause-enough
-returns-clause-enough g c h = not_spent c.args.self.now.log c.search.new.log c.args.assumptions.now c.args.budget c.in_ok-reply.reply h (returns-clause-answered g c)
+returns-clause-enough g c h = decided c.args.self.now.log c.search.new.log c.args.assumptions.now c.args.budget c.in_ok-reply.reply h (returns-clause-answered g c)
+
+pub returns-clause-grows : goal.returns-clause-grows
+returns-clause-grows g c = subst (λ (x : Log). IsLonger x c.search.new.log) (ap (λ (s : State). s.log) c.self.view_is) c.search.ensures.longer
+
+pub returns-then-self-clause-distinct : goal.returns-then-self-clause-distinct
+returns-then-self-clause-distinct g c =
+    let l : IsLog c.args.self.now.log = subst (λ (s : State). IsLog s.log) c.self.view_is c.self.invariant.log in
+    apart c.args.self.now.log.main c.args.self.now.log.steps l.new
+
+pub returns-then-self-clause-few : goal.returns-then-self-clause-few
+returns-then-self-clause-few g c = few_learned c.args.self.now.log (subst (λ (s : State). IsLog s.log) c.self.view_is c.self.invariant.log)
+
+pub returns-in_err-reply-clause-distinct : goal.returns-in_err-reply-clause-distinct
+returns-in_err-reply-clause-distinct g c = apart c.search.new.log.main c.search.new.log.steps c.search.ensures.log.new
+
+pub returns-in_err-reply-clause-few : goal.returns-in_err-reply-clause-few
+returns-in_err-reply-clause-few g c = few_learned c.search.new.log c.search.ensures.log
+
+pub returns-clause-distinct : goal.returns-clause-distinct
+returns-clause-distinct g c = apart c.search.new.log.main c.search.new.log.steps c.search.ensures.log.new
+
+pub returns-clause-few : goal.returns-clause-few
+returns-clause-few g c = few_learned c.search.new.log c.search.ensures.log
