@@ -1,0 +1,4 @@
+pub mod Steps
+pub mod Law
+pub mod Totals
+pub mod Disjunctions

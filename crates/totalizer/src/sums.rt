@@ -1,0 +1,230 @@
+// Sums of counters.
+
+ghost use Rattle.std.specs.Prelude.{◌≡◌, ℕ, ◌+◌, ◌*◌, ◌<◌, ◌≤◌, ◌^◌, [], ◌∷◌, ◌++◌, IfOk, OnOk, OnErr, length, map};
+ghost use Rattle.clause_store.specs.Lits.{sorted_clause};
+ghost use Rattle.clause_store.specs.Grew.{Grew};
+ghost use Rattle.totalizer.specs.Counter.{AreVarsWithin, AllVarsWithin};
+ghost use Rattle.totalizer.specs.Plus.{up_clauses, down_clauses, pair_clauses, row_clauses, plus_clauses, fresh_outputs, plus_due, IsSum};
+ghost use Rattle.totalizer.specs.Total.{total_due, IsTotal};
+
+use crate::literals::{add, positive};
+use crate::unary::Unary;
+use clause_store::ClauseList;
+use edge::NoMemory;
+use std::alloc::Global;
+
+// The clause that the sum is large, at one pair of numbers.
+fn add_up(
+    clauses: &mut ClauseList,
+    left: &[u32],
+    right: &[u32],
+    base: u32,
+    i: usize,
+    j: usize,
+) -> Result<(), NoMemory>
+    requires i_within { i ≤ length left.now }
+    requires j_within { j ≤ length right.now }
+    requires left_in { AreVarsWithin base left.now }
+    requires right_in { AreVarsWithin base right.now }
+    requires room { base + length left.now + length right.now ≤ clauses.old.vars }
+    requires few { clauses.old.vars ≤ 2 ^ 31 }
+    ensures vars { clauses.new.vars ≡ clauses.old.vars }
+    ensures list { OnOk result (clauses.new.list ≡ clauses.old.list ++ map sorted_clause (up_clauses left.now right.now base i j)) }
+    ensures err { OnErr result (clauses.new.list ≡ clauses.old.list) }
+{
+    if i == 0 {
+        if j == 0 {
+            return Ok(());
+        }
+        return add(
+            clauses,
+            &[positive(right[j - 1]).negated(), positive(base + j as u32)],
+        );
+    }
+    let sum = positive(base + i as u32 + j as u32);
+    let first = positive(left[i - 1]).negated();
+    if j == 0 {
+        return add(clauses, &[first, sum]);
+    }
+    add(clauses, &[first, positive(right[j - 1]).negated(), sum])
+}
+
+// The clause that the sum is small.
+fn add_down(
+    clauses: &mut ClauseList,
+    left: &[u32],
+    right: &[u32],
+    base: u32,
+    i: usize,
+    j: usize,
+) -> Result<(), NoMemory>
+    requires i_within { i ≤ length left.now }
+    requires j_within { j ≤ length right.now }
+    requires left_in { AreVarsWithin base left.now }
+    requires right_in { AreVarsWithin base right.now }
+    requires room { base + length left.now + length right.now ≤ clauses.old.vars }
+    requires few { clauses.old.vars ≤ 2 ^ 31 }
+    ensures vars { clauses.new.vars ≡ clauses.old.vars }
+    ensures list { OnOk result (clauses.new.list ≡ clauses.old.list ++ map sorted_clause (down_clauses left.now right.now base i j)) }
+    ensures err { OnErr result (clauses.new.list ≡ clauses.old.list) }
+{
+    if i == left.len() {
+        if j == right.len() {
+            return Ok(());
+        }
+        let sum = positive(base + i as u32 + j as u32 + 1).negated();
+        return add(clauses, &[positive(right[j]), sum]);
+    }
+    let sum = positive(base + i as u32 + j as u32 + 1).negated();
+    let first = positive(left[i]);
+    if j == right.len() {
+        return add(clauses, &[first, sum]);
+    }
+    add(clauses, &[first, positive(right[j]), sum])
+}
+
+// Both clauses at one pair of numbers.
+fn add_pair(
+    clauses: &mut ClauseList,
+    left: &[u32],
+    right: &[u32],
+    base: u32,
+    i: usize,
+    j: usize,
+) -> Result<(), NoMemory>
+    requires i_within { i ≤ length left.now }
+    requires j_within { j ≤ length right.now }
+    requires left_in { AreVarsWithin base left.now }
+    requires right_in { AreVarsWithin base right.now }
+    requires room { base + length left.now + length right.now ≤ clauses.old.vars }
+    requires few { clauses.old.vars ≤ 2 ^ 31 }
+    ensures vars { clauses.new.vars ≡ clauses.old.vars }
+    ensures list { OnOk result (clauses.new.list ≡ clauses.old.list ++ map sorted_clause (pair_clauses left.now right.now base i j)) }
+    ensures err { OnErr result (Grew clauses.old clauses.new (pair_clauses left.now right.now base i j)) }
+{
+    add_up(clauses, left, right, base, i, j)?;
+    add_down(clauses, left, right, base, i, j)
+}
+
+// The clauses of one number of the left.
+fn add_row(
+    clauses: &mut ClauseList,
+    left: &[u32],
+    right: &[u32],
+    base: u32,
+    i: usize,
+) -> Result<(), NoMemory>
+    requires i_within { i ≤ length left.now }
+    requires left_in { AreVarsWithin base left.now }
+    requires right_in { AreVarsWithin base right.now }
+    requires room { base + length left.now + length right.now ≤ clauses.old.vars }
+    requires few { clauses.old.vars ≤ 2 ^ 31 }
+    ensures vars { clauses.new.vars ≡ clauses.old.vars }
+    ensures list { OnOk result (clauses.new.list ≡ clauses.old.list ++ map sorted_clause (row_clauses left.now right.now base i)) }
+    ensures err { OnErr result (Grew clauses.old clauses.new (row_clauses left.now right.now base i)) }
+{
+    for j in 0..right.len() + 1 {
+        add_pair(clauses, left, right, base, i, j)?;
+    }
+    Ok(())
+}
+
+// All clauses of a sum.
+fn add_rows(
+    clauses: &mut ClauseList,
+    left: &[u32],
+    right: &[u32],
+    base: u32,
+) -> Result<(), NoMemory>
+    requires left_in { AreVarsWithin base left.now }
+    requires right_in { AreVarsWithin base right.now }
+    requires room { base + length left.now + length right.now ≤ clauses.old.vars }
+    requires few { clauses.old.vars ≤ 2 ^ 31 }
+    ensures vars { clauses.new.vars ≡ clauses.old.vars }
+    ensures list { OnOk result (clauses.new.list ≡ clauses.old.list ++ map sorted_clause (plus_clauses left.now right.now base)) }
+    ensures err { OnErr result (Grew clauses.old clauses.new (plus_clauses left.now right.now base)) }
+{
+    for i in 0..left.len() + 1 {
+        add_row(clauses, left, right, base, i)?;
+    }
+    Ok(())
+}
+
+// That many fresh variables.
+fn fresh_many(alloc: Global, clauses: &mut ClauseList, n: usize) -> Result<Vec<u32>, NoMemory>
+    requires room { clauses.old.vars + n ≤ 2 ^ 31 }
+    ensures outputs { IfOk result (λ r. r.items ≡ fresh_outputs clauses.old.vars n) }
+    ensures vars { OnOk result (clauses.new.vars ≡ clauses.old.vars + n) }
+    ensures list { clauses.new.list ≡ clauses.old.list }
+    ensures more { clauses.old.vars ≤ clauses.new.vars }
+{
+    let mut outputs = Vec::with_capacity(alloc, n)?;
+    for k in 0..n {
+        let lit = clauses.fresh();
+        outputs.push(lit.var)?;
+    }
+    Ok(outputs)
+}
+
+/// The sum of two counters: appends clauses over as many fresh variables as both have outputs, and answers the
+/// counter of these.
+pub fn plus(
+    alloc: Global,
+    clauses: &mut ClauseList,
+    left: &Unary,
+    right: &Unary,
+) -> Result<Unary, NoMemory>
+    requires left_in { AreVarsWithin clauses.old.vars left.now }
+    requires right_in { AreVarsWithin clauses.old.vars right.now }
+    requires room { (plus_due clauses.old.vars left.now right.now).vars ≤ 2 ^ 31 }
+    ensures outputs { IfOk result (λ r. r ≡ (plus_due clauses.old.vars left.now right.now).outputs) }
+    ensures vars { OnOk result (clauses.new.vars ≡ (plus_due clauses.old.vars left.now right.now).vars) }
+    ensures list { OnOk result (clauses.new.list ≡ clauses.old.list ++ map sorted_clause (plus_due clauses.old.vars left.now right.now).clauses) }
+    ensures err { OnErr result (Grew clauses.old clauses.new (plus_due clauses.old.vars left.now right.now).clauses) }
+
+    // what the clauses mean
+    ensures sum { IsSum clauses.old.vars left.now right.now (plus_due clauses.old.vars left.now right.now) }
+{
+    let left = left.outputs();
+    let right = right.outputs();
+    let base = clauses.vars();
+    let outputs = fresh_many(alloc, clauses, left.len() + right.len())?;
+    add_rows(clauses, left, right, base)?;
+    Ok(Unary::from_outputs(outputs))
+}
+
+// The total, by halves.
+fn total_of(alloc: Global, clauses: &mut ClauseList, parts: &[Unary]) -> Result<Unary, NoMemory>
+    requires some { 1 ≤ length parts.now }
+    requires parts_in { AllVarsWithin clauses.old.vars parts.now }
+    requires room { (total_due clauses.old.vars parts.now).vars ≤ 2 ^ 31 }
+    ensures outputs { IfOk result (λ r. r ≡ (total_due clauses.old.vars parts.now).outputs) }
+    ensures vars { OnOk result (clauses.new.vars ≡ (total_due clauses.old.vars parts.now).vars) }
+    ensures list { OnOk result (clauses.new.list ≡ clauses.old.list ++ map sorted_clause (total_due clauses.old.vars parts.now).clauses) }
+    ensures err { OnErr result (Grew clauses.old clauses.new (total_due clauses.old.vars parts.now).clauses) }
+{
+    if parts.len() == 1 {
+        return parts[0].copy();
+    }
+    let (front, back) = parts.split_at(parts.len() / 2);
+    let left = total_of(alloc, clauses, front)?;
+    let right = total_of(alloc, clauses, back)?;
+    plus(alloc, clauses, &left, &right)
+}
+
+/// The sum of counters: of one, the counter itself, and of more, the sum of the totals of the first half, rounded
+/// down, and of the rest. A part that stands twice counts twice.
+pub fn total(alloc: Global, clauses: &mut ClauseList, parts: &[Unary]) -> Result<Unary, NoMemory>
+    requires some { 1 ≤ length parts.now }
+    requires parts_in { AllVarsWithin clauses.old.vars parts.now }
+    requires room { (total_due clauses.old.vars parts.now).vars ≤ 2 ^ 31 }
+    ensures outputs { IfOk result (λ r. r ≡ (total_due clauses.old.vars parts.now).outputs) }
+    ensures vars { OnOk result (clauses.new.vars ≡ (total_due clauses.old.vars parts.now).vars) }
+    ensures list { OnOk result (clauses.new.list ≡ clauses.old.list ++ map sorted_clause (total_due clauses.old.vars parts.now).clauses) }
+    ensures err { OnErr result (Grew clauses.old clauses.new (total_due clauses.old.vars parts.now).clauses) }
+
+    // what the clauses mean
+    ensures total { IsTotal clauses.old.vars parts.now (total_due clauses.old.vars parts.now) }
+{
+    total_of(alloc, clauses, parts)
+}
