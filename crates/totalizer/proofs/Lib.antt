@@ -2,3 +2,4 @@ pub mod Steps
 pub mod Law
 pub mod Totals
 pub mod Disjunctions
+pub mod Sizes

@@ -1,5 +1,5 @@
 -- Unary counters: lists of variables of which, where they count, the true ones come first.
-use Rattle.std.specs.Prelude.{◌≡◌, ℕ, suc, ◌+◌, ◌<◌, ◌≤◌, Bool, List, [], ◌∷◌, length, slice_index, if◌then◌else◌, nat_lt}
+use Rattle.std.specs.Prelude.{◌≡◌, ℕ, suc, ◌+◌, ◌<◌, ◌≤◌, Bool, List, [], ◌∷◌, length, map, slice_index, if◌then◌else◌, nat_lt}
 use Rattle.clause_store.specs.declared.lit.Lit.{Lit}
 
 -- what is due: clauses as they are made, the number of variables then, and the outputs
@@ -28,6 +28,16 @@ AllUnary b (p ∷ ps) = IsUnary b p × AllUnary b ps
 abbrev pub AllVarsWithin : ℕ → List (List ℕ) → Type 0
 AllVarsWithin v [] = Unit {0}
 AllVarsWithin v (p ∷ ps) = AreVarsWithin v p × AllVarsWithin v ps
+
+-- the counter of each variable alone
+abbrev pub leaves : List ℕ → List (List ℕ)
+leaves xs = map (λ x. x ∷ []) xs
+
+-- distinct variables above v, up to w
+pub record AreFresh (v w : ℕ) (xs : List ℕ) : Type 0 where
+  pub above : (k : ℕ) → k < length xs → v < slice_index xs k
+  pub within : (k : ℕ) → k < length xs → slice_index xs k ≤ w
+  pub distinct : (j k : ℕ) → j < length xs → k < length xs → slice_index xs j ≡ slice_index xs k → j ≡ k
 
 -- the sum of the values
 abbrev pub sum_of : (ℕ → Bool) → List (List ℕ) → ℕ

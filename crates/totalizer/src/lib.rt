@@ -9,7 +9,7 @@ mod unary;
 
 pub use disjunction::either;
 pub use sums::{plus, total};
-pub use unary::{Unary, leaf};
+pub use unary::{Unary, leaf, leaves};
 
 #[cfg(test)]
 mod tests;

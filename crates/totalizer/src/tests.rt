@@ -1,6 +1,6 @@
 // The clauses of small counters.
 
-use crate::{Unary, either, leaf, plus, total};
+use crate::{Unary, either, leaf, leaves, plus, total};
 use clause_store::{ClauseList, Lit};
 use std::process::Abort;
 use std::test::Fail;
@@ -44,9 +44,10 @@ fn a_sum_of_two_has_six_clauses(rt: HostRuntime) -> Result<(), Fail> {
     assert_eq!(rt; sum.at_least(2), yes(4));
 
     let mut clauses = ClauseList::new(rt.alloc());
-    let _first = clauses.fresh();
-    let _second = clauses.fresh();
-    let sum = total(rt.alloc(), &mut clauses, &[left, right])?;
+    let first = clauses.fresh();
+    let second = clauses.fresh();
+    let parts = leaves(rt.alloc(), &[first.var, second.var])?;
+    let sum = total(rt.alloc(), &mut clauses, &parts)?;
     assert_sum_of_two(&rt, &clauses, &sum);
     Ok(())
 }

@@ -2,7 +2,7 @@
 
 ghost use Rattle.std.specs.Prelude.{◌≡◌, ℕ, suc, ◌+◌, ◌-◌, ◌<◌, ◌≤◌, ◌^◌, Bool, [], ◌∷◌, IfOk, length, All, slice_index, if◌then◌else◌};
 ghost use Rattle.clause_store.specs.Lits.{positive_lit};
-ghost use Rattle.totalizer.specs.Counter.{count_of, IsUnary};
+ghost use Rattle.totalizer.specs.Counter.{count_of, IsUnary, leaves};
 
 use clause_store::Lit;
 use edge::NoMemory;
@@ -86,4 +86,16 @@ pub fn leaf(alloc: Global, var: u32) -> Result<Unary, NoMemory>
     let mut outputs = Vec::with_capacity(alloc, 1)?;
     outputs.push(var)?;
     Ok(Unary { outputs })
+}
+
+/// The counter of each variable alone, in order.
+pub fn leaves(alloc: Global, vars: &[u32]) -> Result<Vec<Unary>, NoMemory>
+    requires { All (λ v. 1 ≤ v) vars.now }
+    ensures { IfOk result (λ parts. parts.items ≡ leaves vars.now) }
+{
+    let mut parts = Vec::with_capacity(alloc, vars.len())?;
+    for var in vars {
+        parts.push(leaf(alloc, *var)?)?;
+    }
+    Ok(parts)
 }
