@@ -1,0 +1,211 @@
+ghost use Rattle.std.specs.Prelude.{◌≡◌, ◌≤◌, ◌+◌, ◌-◌, ◌*◌, ℕ, map, min};
+ghost use Rattle.std.specs.Char.{is_ascii_digit};
+ghost use Rattle.std.specs.List.{list_all};
+ghost use Rattle.line_tokens.specs.Lexemes.{lexeme_of};
+ghost use Rattle.problem_lines.specs.Forms.{form_of, atoms_form, agent_form, times_form, numeral_form, base_form, is_name_token};
+ghost use Rattle.problem_lines.specs.Numerals.{is_numeral, value_after};
+ghost use Rattle.problem_lines.specs.Views.{IsForm};
+
+use formulas::is_plain_name;
+use line_tokens::Token;
+
+/// What a line of a problem text says, by its tokens.
+#[derive(Clone, Copy, Debug)]
+pub enum LineForm<'a> {
+    /// Nothing.
+    Blank,
+    /// That these names are those of atoms.
+    Atoms(&'a [Token<'a>]),
+    /// That these tokens are the constraint.
+    Constraint(&'a [Token<'a>]),
+    /// That the agent of this name counts so often, where 33 stands for any greater number, with
+    /// these tokens as its base.
+    Agent(&'a str, u32, &'a [Token<'a>]),
+    /// That these tokens are a query.
+    Ask(&'a [Token<'a>]),
+    /// Nothing that a line may say.
+    Unknown,
+}
+
+fn are_digits(bytes: &[u8]) -> bool
+    ensures { result ≡ list_all is_ascii_digit bytes.now }
+{
+    bytes.iter().all(|byte| byte.is_ascii_digit())
+}
+
+/// Whether a word is one of digits that does not begin with 0.
+fn is_numeral(word: &str) -> bool
+    ensures { result ≡ is_numeral word.now }
+{
+    let bytes = word.as_bytes();
+    if bytes.is_empty() {
+        return false;
+    }
+    if bytes[0] == b'0' {
+        return false;
+    }
+    are_digits(bytes)
+}
+
+/// A number of at most 33 with one more digit, or 33 where that is more.
+fn with_digit(number: u32, byte: u8) -> u32
+    requires few { number ≤ 33 }
+    ensures number { result ≡ min (number * 10 + (byte - 48)) 33 }
+{
+    (number * 10 + byte.saturating_sub(b'0') as u32).min(33)
+}
+
+/// The number that a word of digits says, or 33 for a greater one.
+fn value(word: &str) -> u32
+    ensures { result ≡ min (value_after 0 word.now) 33 }
+{
+    let mut number = 0;
+    for byte in word.as_bytes() {
+        number = with_digit(number, *byte);
+    }
+    number
+}
+
+fn is_name(token: &Token) -> bool
+    ensures { result ≡ is_name_token (lexeme_of token.now) }
+{
+    match token {
+        Token::Word(word) => is_plain_name(word.as_bytes()),
+        _ => false,
+    }
+}
+
+fn are_names(tokens: &[Token]) -> bool
+    ensures { result ≡ list_all is_name_token (map lexeme_of tokens.now) }
+{
+    for token in tokens {
+        if !is_name(token) {
+            return false;
+        }
+    }
+    true
+}
+
+fn atoms_form<'a>(tokens: &'a [Token<'a>]) -> LineForm<'a>
+    ensures { IsForm result (atoms_form (map lexeme_of tokens.now)) }
+{
+    if !tokens.is_empty() && are_names(tokens) {
+        LineForm::Atoms(tokens)
+    } else {
+        LineForm::Unknown
+    }
+}
+
+fn base_form<'a>(name: &'a str, times: u32, tokens: &'a [Token<'a>]) -> LineForm<'a>
+    ensures { (n : ℕ) → times ≡ min n 33 → IsForm result (base_form name.now n (map lexeme_of tokens.now)) }
+{
+    match tokens {
+        [Token::Colon, base @ ..] => LineForm::Agent(name, times, base),
+        _ => LineForm::Unknown,
+    }
+}
+
+fn numeral_form<'a>(name: &'a str, tokens: &'a [Token<'a>]) -> LineForm<'a>
+    ensures { IsForm result (numeral_form name.now (map lexeme_of tokens.now)) }
+{
+    match tokens {
+        [Token::Word(word), rest @ ..] => {
+            if is_numeral(word) {
+                base_form(name, value(word), rest)
+            } else {
+                LineForm::Unknown
+            }
+        }
+        _ => LineForm::Unknown,
+    }
+}
+
+fn times_form<'a>(name: &'a str, tokens: &'a [Token<'a>]) -> LineForm<'a>
+    ensures { IsForm result (times_form name.now (map lexeme_of tokens.now)) }
+{
+    match tokens {
+        [Token::Colon, base @ ..] => LineForm::Agent(name, 1, base),
+        [Token::Word(word), rest @ ..] => {
+            if *word == "times" {
+                numeral_form(name, rest)
+            } else {
+                LineForm::Unknown
+            }
+        }
+        _ => LineForm::Unknown,
+    }
+}
+
+fn agent_form<'a>(tokens: &'a [Token<'a>]) -> LineForm<'a>
+    ensures { IsForm result (agent_form (map lexeme_of tokens.now)) }
+{
+    match tokens {
+        [Token::Word(name), rest @ ..] => {
+            if is_plain_name(name.as_bytes()) {
+                times_form(name, rest)
+            } else {
+                LineForm::Unknown
+            }
+        }
+        _ => LineForm::Unknown,
+    }
+}
+
+/// What a line with these tokens says.
+pub fn form_of<'a>(tokens: &'a [Token<'a>]) -> LineForm<'a>
+    ensures { IsForm result (form_of (map lexeme_of tokens.now)) }
+{
+    match tokens {
+        [] => LineForm::Blank,
+        [Token::Word(word), rest @ ..] => {
+            if *word == "atoms" {
+                atoms_form(rest)
+            } else if *word == "constraint" {
+                LineForm::Constraint(rest)
+            } else if *word == "agent" {
+                agent_form(rest)
+            } else if *word == "ask" {
+                LineForm::Ask(rest)
+            } else {
+                LineForm::Unknown
+            }
+        }
+        _ => LineForm::Unknown,
+    }
+}
+
+#[cfg(test)]
+mod tests {
+    use super::*;
+    use line_tokens::tokens;
+    use std::test::Fail;
+
+    #[test]
+    fn each_line_has_its_form(rt: HostRuntime) -> Result<(), Fail> {
+        let alloc = rt.alloc();
+        let rows: [(&[u8], &str); 12] = [
+            (b" \t", "Blank"),
+            (b"atoms a b1", "Atoms([Word(\"a\"), Word(\"b1\")])"),
+            (b"atoms", "Unknown"),
+            (b"atoms a 1b", "Unknown"),
+            (b"constraint !a", "Constraint([Bang, Word(\"a\")])"),
+            (b"agent p : a", "Agent(\"p\", 1, [Word(\"a\")])"),
+            (b"agent p times 12:a", "Agent(\"p\", 12, [Word(\"a\")])"),
+            (
+                b"agent p times 4294967297 : a",
+                "Agent(\"p\", 33, [Word(\"a\")])",
+            ),
+            (b"agent p times 01 : a", "Unknown"),
+            (b"agent p a", "Unknown"),
+            (b"ask", "Ask([])"),
+            (b"asks a", "Unknown"),
+        ];
+        for (text, want) in rows {
+            let tokens = tokens(alloc, text)?.ok_or("a bad byte")?;
+            let form = form_of(&tokens);
+            let shown = format!(in alloc; "{form:?}")?;
+            assert_eq!(rt; shown.as_str(), want);
+        }
+        Ok(())
+    }
+}
