@@ -1,2 +1,5 @@
 pub mod Logs
 pub mod Rows
+pub mod StepLines
+pub mod StepReading
+pub mod LineLaws

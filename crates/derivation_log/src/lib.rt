@@ -2,7 +2,14 @@
 #![tactic(auto)]
 
 mod derivations;
+mod laws;
+mod reading;
 mod step;
+mod wide;
+mod writing;
 
 pub use derivations::Derivations;
+pub use laws::{one_step, read_back};
+pub use reading::{StepReadStop, read_step};
 pub use step::{Chain, Link, Step, StepKind};
+pub use writing::write_step;

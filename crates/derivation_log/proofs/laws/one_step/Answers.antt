@@ -1,0 +1,5 @@
+use Rattle.derivation_log.proofs.StepLaws.{one}
+use Rattle.derivation_log.proofs.laws.one_step.Goals as goal
+
+pub returns : goal.returns
+returns c = one
