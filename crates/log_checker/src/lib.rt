@@ -8,3 +8,6 @@ mod refuting;
 pub use checking::{StepStop, check_step};
 pub use laws::{log_law, one_answer, step_law};
 pub use refuting::refutes;
+
+#[cfg(test)]
+mod tests;
