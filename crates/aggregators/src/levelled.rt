@@ -1,0 +1,28 @@
+ghost use Rattle.std.specs.Prelude.{◌≡◌, ℕ, ◌≤◌, List, length, All, IfOk};
+ghost use Rattle.std.specs.Cmp.Lexicographic.{slice_cmp};
+ghost use Rattle.std.specs.Ordering.{nat_cmp};
+
+use edge::NoMemory;
+use merge_model::Aggregator;
+use std::alloc::Global;
+
+/// An aggregator whose order is that of level values.
+///
+/// Its meaning is `levels_of`: the level values of a list of distances that are each at most a
+/// greatest one. The law, below the method: for lists of one length, the lexicographic order of the
+/// level values is that of the ranks.
+pub trait Levelled: Aggregator {
+    ghost levels_of: { Self → List ℕ → ℕ → List ℕ };
+
+    /// The level values of a list of 1 to 64 distances of at most `top`, which is at most 4,096;
+    /// `NoMemory` for want of it.
+    fn level_values(&self, alloc: Global, full: &[u32], top: u32) -> Result<Vec<u32>, NoMemory>
+        requires some { 1 ≤ length full.now }
+        requires few { length full.now ≤ 64 }
+        requires within { All (λ k. k ≤ top) full.now }
+        requires small { top ≤ 4096 }
+        ensures { IfOk result (λ values. values.items ≡ levels_of self.now full.now top) };
+
+    ghost in_order: { (a : Self) (top : ℕ) (u w : List ℕ) → All (λ k. k ≤ top) u → All (λ k. k ≤ top) w → length u ≡ length w →
+        slice_cmp nat_cmp (levels_of a u top) (levels_of a w top) ≡ slice_cmp nat_cmp (Self.rank a u) (Self.rank a w) };
+}

@@ -1,0 +1,9 @@
+//! The levels of aggregators: numbers whose lexicographic order is that of the ranks.
+#![tactic(auto)]
+
+mod levelled;
+mod maximum;
+mod sorted;
+mod summed;
+
+pub use levelled::Levelled;

@@ -1,0 +1,20 @@
+use crate::Levelled;
+use edge::NoMemory;
+use merge_model::Sum;
+use ranks::total;
+use std::alloc::Global;
+
+impl Levelled for Sum {
+    ghost use Rattle.std.proofs.Common.{refl};
+    ghost use Rattle.aggregators.specs.LevelValues.{sum_values};
+
+    ghost levels_of = { λ _ u top. sum_values u top };
+
+    ghost in_order = { λ _ top u w _ _ _. refl };
+
+    #[tactic(auto, using(ranks::proofs::SumLaws::small_sum_top))]
+    fn level_values(&self, alloc: Global, full: &[u32], _top: u32) -> Result<Vec<u32>, NoMemory> {
+        let values = vec![in alloc; total(full)]?;
+        Ok(values)
+    }
+}
