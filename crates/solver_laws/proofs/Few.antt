@@ -1,5 +1,5 @@
 -- Fewer clauses are learned than 3 to the number of variables.
-use Rattle.std.proofs.Common.{◌≡◌, ◌≢◌, ℕ, ◌+◌, ◌-◌, ◌*◌, ◌<◌, ◌≤◌, Bool, true, false, List, [], ◌∷◌, ◌++◌, length, refl, ap, sym, ◌∙◌, rules, arith, cond, inl, inr, subst, zero, suc, get_or, append_assoc, length-append}
+use Rattle.std.proofs.Common.{◌≡◌, ◌≢◌, ℕ, ◌<◌, List, [], ◌∷◌, ◌++◌, length, refl, sym, ◌∙◌, arith, inl, inr, subst, zero, suc, get_or, length-append}
 use Rattle.std.specs.Prelude.{All, AllPairs, ◌^◌}
 use Rattle.std.proofs.lemmas.Bool.{cases_Bool}
 use Rattle.clause_store.specs.declared.lit.Lit.{Lit}
@@ -7,7 +7,7 @@ use Rattle.derivation_log.specs.Logs.{Log, learned_of, IsNew, is_learned}
 use Rattle.derivation_log.specs.declared.step.Step.{Step}
 use Rattle.clause_store.specs.Lits.{Includes}
 use Rattle.clause_store.proofs.Each.{each_index}
-use Rattle.ternary.specs.Digits.{IsFamily, IsFit}
+use Rattle.ternary.specs.Digits.{IsFit}
 use Rattle.ternary.proofs.Codes.{count_law}
 use Rattle.solver_laws.specs.Ready.{AllFit, IsLog}
 

@@ -1,15 +1,14 @@
 -- Learned clauses are counted.
-use Rattle.std.proofs.Common.{◌≡◌, ◌≢◌, ℕ, ◌+◌, ◌-◌, ◌*◌, ◌<◌, ◌≤◌, Bool, true, false, not, List, [], ◌∷◌, length, refl, ap, sym, ◌∙◌, rules, arith, cond, inl, inr, subst, zero, suc, Some, None, Option, get_or}
-use Rattle.std.specs.Prelude.{All, AllPairs, ◌⊎◌, ◌^◌}
+use Rattle.std.proofs.Common.{◌≡◌, ℕ, ◌+◌, ◌*◌, ◌<◌, ◌≤◌, Bool, true, false, List, [], ◌∷◌, refl, ap, sym, arith, cond, inl, inr, subst, Some, None, Option}
 use Rattle.std.proofs.lemmas.Bool.{cases_lt}
 use Rattle.std.proofs.Math.Bool.{beq}
 use Rattle.clause_store.specs.declared.lit.Lit.{Lit}
-use Rattle.clause_store.specs.Lits.{rank_of, IsBelow, Ascends, InRange, Includes}
+use Rattle.clause_store.specs.Lits.{rank_of, IsBelow, Ascends, InRange}
 use Rattle.watch_lists.specs.declared.entry.Entry.{Entry}
-use Rattle.watch_lists.specs.Trace.{value_of, entry_of, under, room_of}
+use Rattle.watch_lists.specs.Trace.{entry_of, under, room_of}
 use Rattle.solver_laws.specs.Ready.{IsFalseIn}
 use Rattle.std.specs.List.{AllByRecursion}
-use Rattle.ternary.specs.Digits.{IsAbove, IsWithin, IsFamily}
+use Rattle.ternary.specs.Digits.{IsAbove, IsWithin}
 use Rattle.ternary.specs.Digits.{IsFit}
 
 both_false : (o : Option Entry) → under o true ≡ Some false → under o false ≡ Some false → ⊥

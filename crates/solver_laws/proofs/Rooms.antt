@@ -1,6 +1,6 @@
 -- What clauses leave open under a trail and its lower levels.
-use Rattle.std.proofs.Common.{◌≡◌, ◌≢◌, ℕ, ◌+◌, ◌*◌, ◌<◌, ◌≤◌, Bool, true, false, not, List, [], ◌∷◌, ◌++◌, length, refl, ap, sym, ◌∙◌, rules, arith, cond, eqb, ltb, inl, inr, subst, zero, suc, Some, None, Option, map, get_or}
-use Rattle.std.specs.Prelude.{nat_lt, nat_le, ◌||◌, ◌⊎◌, All, Contains, sum_by, slice_get, unwrap_or}
+use Rattle.std.proofs.Common.{◌≡◌, ◌≢◌, ℕ, ◌+◌, ◌<◌, ◌≤◌, Bool, true, false, not, List, [], ◌∷◌, length, refl, ap, sym, ◌∙◌, arith, cond, eqb, inl, inr, subst, zero, suc, Some, None, Option, get_or}
+use Rattle.std.specs.Prelude.{nat_lt, nat_le, ◌||◌, ◌⊎◌, Contains}
 use Rattle.std.proofs.lemmas.Bool.{cases_lt, cases_eq, cases_Bool, false≢true}
 use Rattle.std.proofs.Math.Bool.{beq}
 use Rattle.std.proofs.lemmas.List.Sums.{sum_by-cons}
@@ -8,8 +8,8 @@ use Rattle.clause_store.specs.declared.lit.Lit.{Lit}
 use Rattle.clause_store.specs.Lits.{rank_of, negated, same_lit, without, with_lit, joined, resolvent, IsBelow, Ascends, has, Includes}
 use Rattle.clause_store.proofs.Lits.{rank_lit}
 use Rattle.watch_lists.specs.declared.entry.Entry.{Entry}
-use Rattle.watch_lists.specs.Trace.{Trace, Attached, value_of, entry_of, under, room_in, room_of, upto, AreApart, IsStacked, Implies, Grows, Same, More, IsComplete, StandIn, Place, places_of, ExtendsAt, Extends}
-use Rattle.solver_laws.specs.Ready.{IsFalseIn, IsReason, IsJustified, DecidesOnly, Tops, IsBarred, IsBarredBy}
+use Rattle.watch_lists.specs.Trace.{value_of, entry_of, under, room_in, room_of, upto, AreApart, IsStacked, Place, places_of, Extends}
+use Rattle.solver_laws.specs.Ready.{IsFalseIn, Tops}
 use Rattle.std.specs.List.{AllByRecursion}
 
 pub or_cases : (a b : Bool) → a || b ≡ true → (a ≡ true) ⊎ (b ≡ true)

@@ -1,22 +1,18 @@
 -- What the steps of a solver keep.
-use Rattle.std.proofs.Common.{◌≡◌, ◌≢◌, ℕ, ◌+◌, ◌-◌, ◌*◌, ◌<◌, ◌≤◌, Bool, true, false, not, List, [], ◌∷◌, ◌++◌, length, refl, ap, sym, ◌∙◌, rules, arith, cond, eqb, ltb, inl, inr, subst, zero, suc, Some, None, Option, map, get_or, drop, append_assoc}
-use Rattle.std.specs.Prelude.{nat_lt, nat_le, ◌||◌, ◌⊎◌, All, Contains, sum_by, slice_get, unwrap_or, IfSome, IfNone}
-use Rattle.std.proofs.lemmas.Bool.{cases_lt, cases_eq, cases_Bool, false≢true}
-use Rattle.std.proofs.lemmas.List.{append_cancel_right}
-use Rattle.std.proofs.lemmas.List.Elements.{All-push}
+use Rattle.std.proofs.Common.{◌≡◌, ◌≢◌, ℕ, ◌+◌, ◌-◌, ◌≤◌, true, false, List, [], ◌∷◌, ◌++◌, length, refl, ap, sym, ◌∙◌, rules, arith, cond, eqb, inl, inr, subst, zero, suc, Some, None, Option, drop}
+use Rattle.std.specs.Prelude.{Contains, slice_get}
+use Rattle.std.proofs.lemmas.Bool.{cases_eq}
 use Rattle.clause_store.specs.declared.lit.Lit.{Lit}
-use Rattle.clause_store.specs.Lits.{rank_of, negated, same_lit, without, with_lit, joined, resolvent, IsBelow, Ascends, InRange, IsWithin, has, Includes}
-use Rattle.clause_store.proofs.Lits.{rank_lit, Ascends-resolvent, lit_ext}
+use Rattle.clause_store.specs.Lits.{negated, same_lit, without, resolvent, Ascends, InRange, IsWithin, has}
+use Rattle.clause_store.proofs.Lits.{Ascends-resolvent}
 use Rattle.watch_lists.specs.declared.entry.Entry.{Entry}
 use Rattle.watch_lists.proofs.Scans.{contains_all}
-use Rattle.watch_lists.specs.Trace.{Trace, Attached, value_of, entry_of, under, room_in, room_of, upto, oldest, AreApart, IsStacked, IsTrace, Implies, Grows, Same, More, IsComplete, IsFalsified, StandIn, ExtendsAt, Extends}
+use Rattle.watch_lists.specs.Trace.{Trace, Attached, value_of, entry_of, under, room_in, room_of, upto, oldest, AreApart, IsStacked, IsTrace, IsComplete, IsFalsified, StandIn}
 use Rattle.derivation_log.specs.declared.step.Link.{Link}
-use Rattle.derivation_log.specs.Logs.{Log, Comes, known_of, clauses_of, learned_of, IsSound, IsNew}
-use Rattle.derivation_log.specs.declared.step.Step.{Step}
-use Rattle.derivation_log.proofs.Steps.{comes_more, sound_push, new_push, learned_push, clauses_push}
-use Rattle.solver_laws.specs.Ready.{IsFalseIn, IsReason, IsJustified, DecidesOnly, Tops, IsBarred, IsBarredBy, IsLesson, IsReady, IsLog}
+use Rattle.derivation_log.proofs.Steps.{comes_more}
+use Rattle.solver_laws.specs.Ready.{IsFalseIn, IsReason, IsJustified, Tops, IsLesson}
 use Rattle.std.specs.List.{AllByRecursion}
-use Rattle.solver_laws.proofs.Rooms.{same_lit-is, each_map, each_resolvent, each_lacks, each_has, false_before, room_false, room_without, room_once, room_joined, contains_has, room_le, upto_whole, upto_upto, entry_upto, room_at, tops_from, tops_lacks, decision_room, room_zero_each, room_cons}
+use Rattle.solver_laws.proofs.Rooms.{each_map, each_resolvent, each_lacks, false_before, room_false, room_once, room_joined, tops_from, tops_lacks, decision_room, room_zero_each}
 
 some_inj : (c d : List Lit) → (let x : Option (List Lit) = Some c in let y : Option (List Lit) = Some d in x ≡ y) → c ≡ d
 some_inj c d h = cc

@@ -1,14 +1,14 @@
 -- What propagation, decisions, going back and learning keep.
-use Rattle.std.proofs.Common.{◌≡◌, ◌≢◌, ℕ, ◌+◌, ◌-◌, ◌*◌, ◌<◌, ◌≤◌, Bool, true, false, not, List, [], ◌∷◌, ◌++◌, length, refl, ap, sym, ◌∙◌, rules, arith, cond, eqb, ltb, inl, inr, subst, zero, suc, Some, None, Option, map, get_or, drop, append_assoc, length-append}
-use Rattle.std.specs.Prelude.{nat_lt, nat_le, ◌||◌, ◌⊎◌, All, Contains, slice_get}
-use Rattle.std.proofs.lemmas.Bool.{cases_lt, cases_eq, cases_Bool, false≢true}
+use Rattle.std.proofs.Common.{◌≡◌, ℕ, ◌+◌, ◌-◌, ◌<◌, ◌≤◌, true, false, List, [], ◌∷◌, ◌++◌, length, refl, ap, sym, ◌∙◌, arith, cond, inl, inr, subst, zero, suc, Some, None, Option, map, get_or, append_assoc, length-append}
+use Rattle.std.specs.Prelude.{nat_lt, nat_le, All, Contains, slice_get}
+use Rattle.std.proofs.lemmas.Bool.{cases_lt, false≢true}
 use Rattle.std.proofs.lemmas.List.{append_cancel_right}
 use Rattle.std.proofs.lemmas.List.Elements.{All-push}
 use Rattle.clause_store.specs.declared.lit.Lit.{Lit}
 use Rattle.clause_store.specs.Lits.{without, Ascends, has, Includes}
 use Rattle.watch_lists.specs.declared.entry.Entry.{Entry}
-use Rattle.watch_lists.specs.Trace.{Trace, Attached, value_of, entry_of, under, room_in, room_of, upto, AreApart, IsStacked, IsTrace, Implies, Grows, Same, More, IsComplete, StandIn, Place, places_of, shorter, ExtendsAt, Extends}
-use Rattle.derivation_log.specs.Logs.{Log, known_of, clauses_of, learned_of, IsSound, IsNew, Follows, is_learned}
+use Rattle.watch_lists.specs.Trace.{Trace, Attached, value_of, room_in, room_of, upto, IsStacked, Implies, Grows, Same, More, IsComplete, StandIn, Place, places_of, shorter, ExtendsAt, Extends}
+use Rattle.derivation_log.specs.Logs.{Log, known_of, clauses_of, learned_of, Follows, is_learned}
 use Rattle.derivation_log.specs.declared.step.Step.{Step}
 use Rattle.derivation_log.proofs.Steps.{sound_push, new_push, learned_push, clauses_push}
 use Rattle.solver_laws.specs.Ready.{IsFalseIn, IsReason, IsJustified, DecidesOnly, IsReady, IsLog, AllFit}

@@ -1,10 +1,10 @@
 -- What a solver keeps true of its log, its trail and its propagator.
-use Rattle.std.specs.Prelude.{◌≡◌, ◌≢◌, ℕ, ◌+◌, ◌<◌, ◌≤◌, Bool, true, false, List, [], ◌∷◌, ◌++◌, length, Option, Some, None, map, All, Contains, ◌⊎◌, zero, suc, slice_get}
+use Rattle.std.specs.Prelude.{◌≡◌, ◌≢◌, ℕ, ◌<◌, ◌≤◌, true, false, List, [], ◌∷◌, ◌++◌, Option, Some, None, map, Contains, ◌⊎◌, slice_get}
 use Rattle.std.specs.List.{AllByRecursion}
 use Rattle.clause_store.specs.declared.lit.Lit.{Lit}
-use Rattle.clause_store.specs.Lits.{negated, without, resolvent, Ascends, has, InRange}
+use Rattle.clause_store.specs.Lits.{negated, without, Ascends, has, InRange}
 use Rattle.watch_lists.specs.declared.entry.Entry.{Entry}
-use Rattle.watch_lists.specs.Trace.{Trace, Attached, value_of, entry_of, room_of, upto, oldest, IsComplete, StandIn, Place, places_of, ExtendsAt, IsStacked}
+use Rattle.watch_lists.specs.Trace.{Trace, Attached, value_of, upto, IsComplete, StandIn, Place, places_of, ExtendsAt}
 use Rattle.ternary.specs.Digits.{IsFit}
 use Rattle.derivation_log.specs.declared.step.Link.{Link}
 use Rattle.derivation_log.specs.Logs.{Log, known_of, learned_of, IsSound, IsNew, Comes, is_learned}
