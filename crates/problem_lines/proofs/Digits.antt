@@ -1,5 +1,5 @@
 -- A number that is counted up to 33 at each digit.
-use Rattle.std.proofs.Common.{◌≡◌, ℕ, ◌+◌, ◌-◌, ◌*◌, ◌≤◌, List, [], ◌∷◌, min, arith}
+use Rattle.std.proofs.Common.{◌≡◌, ℕ, ◌+◌, ◌-◌, ◌*◌, List, [], ◌∷◌, min, arith}
 use Rattle.problem_lines.specs.Numerals.{value_after}
 
 pub capped_value : (n m : ℕ) (w : List ℕ) → min n 33 ≡ min m 33 → min (value_after n w) 33 ≡ min (value_after m w) 33

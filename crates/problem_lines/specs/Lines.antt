@@ -1,5 +1,5 @@
 -- The lines of a text, and what of a line is no comment.
-use Rattle.std.specs.Prelude.{ℕ, Bool, List, [], ◌∷◌, ◌==◌, not, if◌then◌else◌}
+use Rattle.std.specs.Prelude.{ℕ, List, [], ◌∷◌, ◌==◌, not, if◌then◌else◌}
 use Rattle.std.specs.List.{take_while}
 
 -- a byte before the first of some lines

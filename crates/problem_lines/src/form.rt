@@ -2,7 +2,7 @@ ghost use Rattle.std.specs.Prelude.{◌≡◌, ◌≤◌, ◌+◌, ◌-◌, ◌*
 ghost use Rattle.std.specs.Char.{is_ascii_digit};
 ghost use Rattle.std.specs.List.{list_all};
 ghost use Rattle.line_tokens.specs.Lexemes.{lexeme_of};
-ghost use Rattle.problem_lines.specs.Forms.{form_of, atoms_form, agent_form, times_form, numeral_form, base_form, is_name_token};
+ghost use Rattle.problem_lines.specs.Forms.{form_of, atoms_form, agent_form, times_form, numeral_form, base_form, is_name_token, word_of};
 ghost use Rattle.problem_lines.specs.Numerals.{is_numeral, value_after};
 ghost use Rattle.problem_lines.specs.Views.{IsForm};
 
@@ -72,6 +72,16 @@ fn is_name(token: &Token) -> bool
     match token {
         Token::Word(word) => is_plain_name(word.as_bytes()),
         _ => false,
+    }
+}
+
+/// The word that a token is, or no bytes for a mark.
+pub fn word_of<'a>(token: Token<'a>) -> &'a str
+    ensures { result.now ≡ word_of (lexeme_of token.entry) }
+{
+    match token {
+        Token::Word(word) => word,
+        _ => "",
     }
 }
 

@@ -5,4 +5,4 @@ mod comment;
 mod form;
 
 pub use comment::content;
-pub use form::{LineForm, form_of};
+pub use form::{LineForm, form_of, word_of};

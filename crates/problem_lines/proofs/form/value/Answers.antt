@@ -1,4 +1,4 @@
-use Rattle.std.proofs.Common.{◌≡◌, ℕ, ◌+◌, ◌-◌, ◌*◌, ◌≤◌, min, drop, drop-cons, add-one, suc, slice_index, sym, ap, ◌∙◌, arith}
+use Rattle.std.proofs.Common.{◌+◌, ◌-◌, ◌*◌, min, drop, drop-cons, add-one, suc, slice_index, sym, ap, ◌∙◌, arith}
 use Rattle.problem_lines.specs.Numerals.{value_after}
 use Rattle.problem_lines.proofs.Digits.{value_step}
 use Rattle.problem_lines.proofs.form.value.Goals as goal

@@ -1,0 +1,10 @@
+use Rattle.std.proofs.Common.{◌≡◌, map, drop}
+use Rattle.std.specs.List.{list_any}
+use Rattle.formulas.specs.Names.{is_reserved}
+use Rattle.line_tokens.specs.Lexemes.{lexeme_of}
+use Rattle.problem_lines.specs.Forms.{words_of}
+use Rattle.problem_reading.proofs.names.any_reserved.Given as goal
+
+abbrev pub invariant-loop-token : goal.invariant-loop-token
+invariant-loop-token l =
+    list_any is_reserved (words_of (map lexeme_of (drop l.token-index l.tokens))) ≡ list_any is_reserved (words_of (map lexeme_of l.tokens))

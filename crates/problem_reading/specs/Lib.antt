@@ -1,0 +1,7 @@
+pub mod Drafts
+pub mod Faults
+pub mod Kept
+pub mod Saying
+pub mod Stops
+pub mod Views
+pub mod Fitting

@@ -1,0 +1,176 @@
+ghost use Rattle.std.specs.Prelude.{◌≡◌, ◌+◌, ◌≤◌, ℕ, IfOk, IfErr, true, min, nat_lt, map};
+ghost use Rattle.std.specs.List.{list_all};
+ghost use Rattle.line_tokens.specs.Lexemes.{lexeme_of};
+ghost use Rattle.problem_lines.specs.Forms.{Form, condition, belief, query, declaration, is_name_token, words_of};
+ghost use Rattle.problem_lines.specs.Views.{IsForm};
+ghost use Rattle.problem_reading.specs.Drafts.{size_of, believes_too_much};
+ghost use Rattle.problem_reading.specs.Faults.{is_agent};
+ghost use Rattle.problem_reading.specs.Saying.{IsSaid, Says};
+ghost use Rattle.problem_reading.specs.Stops.{IsFormStop, IsLineStop};
+ghost use Rattle.problem_reading.specs.Views.{draft_of};
+
+use crate::formula::line_formula;
+use crate::names::{any_declared, any_long, any_reserved, are_distinct, extended};
+use crate::reading::Reading;
+use crate::said::Said;
+use crate::stop::{LineStop, TextKind};
+use edge::NoMemory;
+use formula_grammar::node_count;
+use formulas::{Atoms, Formula, is_reserved};
+use line_tokens::{Token, tokens};
+use merge_model::{Agent, Sequence};
+use problem_lines::{LineForm, content, form_of};
+use std::alloc::Global;
+
+/// Whether a formula of these tokens has too many nodes beside those that are there.
+fn is_over(tokens: &[Token], used: u64) -> bool
+    requires few { used ≤ 4096 }
+    ensures { result ≡ nat_lt 4096 (used + size_of (map lexeme_of tokens.now)) }
+{
+    node_count(tokens) as u64 > 4096 - used
+}
+
+/// The constraint that a line's tokens spell, or the line's least fault.
+pub fn judge_condition(reading: &Reading, tokens: &[Token]) -> Result<Formula, LineStop>
+    ensures said { IfOk result (λ f. IsSaid (draft_of reading.now) (condition (map lexeme_of tokens.now)) (Said.Condition f)) }
+    ensures stop { IfErr result (IsFormStop (draft_of reading.now) (condition (map lexeme_of tokens.now))) }
+{
+    let over = is_over(tokens, reading.other_nodes);
+    line_formula(
+        reading.alloc,
+        tokens,
+        &reading.atoms,
+        false,
+        reading.constraint.is_some(),
+        over,
+    )
+}
+
+/// The query that a line's tokens spell, or the line's least fault.
+pub fn judge_query(reading: &Reading, tokens: &[Token]) -> Result<Formula, LineStop>
+    ensures said { IfOk result (λ f. IsSaid (draft_of reading.now) (query (map lexeme_of tokens.now)) (Said.Query f)) }
+    ensures stop { IfErr result (IsFormStop (draft_of reading.now) (query (map lexeme_of tokens.now))) }
+{
+    let over = reading.asks.len() >= 16
+        || is_over(tokens, reading.constraint_nodes + reading.other_nodes);
+    line_formula(reading.alloc, tokens, &reading.atoms, false, false, over)
+}
+
+/// Whether an agent of this name is there.
+fn is_agent(reading: &Reading, name: &str) -> bool
+    ensures { result ≡ is_agent (draft_of reading.now) name.now }
+{
+    reading
+        .agents
+        .iter()
+        .any(|agent| name.as_bytes() == agent.name.as_slice())
+}
+
+/// Whether agents that count so often count too often together with one more, whose times are
+/// counted up to 33.
+fn is_too_often(used: u32, times: u32) -> bool
+    requires few { used ≤ 32 }
+    requires capped { times ≤ 33 }
+    ensures { (n : ℕ) → times ≡ min n 33 → result ≡ nat_lt 32 (used + n) }
+{
+    used + times > 32
+}
+
+/// Whether one more agent passes a limit.
+fn believes_too_much(reading: &Reading, name: &str, times: u32, tokens: &[Token]) -> bool
+    requires capped { times ≤ 33 }
+    ensures { (n : ℕ) → times ≡ min n 33 → result ≡ believes_too_much (draft_of reading.now) name.now n (map lexeme_of tokens.now) }
+{
+    let over = is_over(tokens, reading.constraint_nodes + reading.other_nodes);
+    let often = is_too_often(reading.times, times);
+    reading.agents.len() >= 32 || name.len() > 64 || often || over
+}
+
+/// The bytes of a name.
+fn copied(alloc: Global, name: &str) -> Result<Sequence<u8>, NoMemory>
+    ensures { IfOk result (λ bytes. bytes ≡ name.now) }
+{
+    Ok(Sequence::from_vec(name.as_bytes().to_vec(alloc)?))
+}
+
+/// The agent that a line's tokens declare, or the line's least fault.
+pub fn judge_belief(
+    reading: &Reading,
+    name: &str,
+    times: u32,
+    tokens: &[Token],
+) -> Result<Agent, LineStop>
+    requires capped { times ≤ 33 }
+    ensures said { (n : ℕ) → times ≡ min n 33 → IfOk result (λ agent. IsSaid (draft_of reading.now) (belief name.now n (map lexeme_of tokens.now)) (Said.Belief agent)) }
+    ensures stop { (n : ℕ) → times ≡ min n 33 → IfErr result (IsFormStop (draft_of reading.now) (belief name.now n (map lexeme_of tokens.now))) }
+{
+    let reserved = is_reserved(name.as_bytes());
+    let twice = is_agent(reading, name);
+    let over = believes_too_much(reading, name, times, tokens);
+    let base = line_formula(reading.alloc, tokens, &reading.atoms, reserved, twice, over)?;
+    let name = copied(reading.alloc, name)?;
+    Ok(Agent { name, times, base })
+}
+
+/// The atoms with those that a line's tokens declare, or the line's least fault.
+pub fn judge_names(reading: &Reading, tokens: &[Token]) -> Result<Atoms, LineStop>
+    requires names { list_all is_name_token (map lexeme_of tokens.now) ≡ true }
+    ensures said { IfOk result (λ atoms. IsSaid (draft_of reading.now) (declaration (words_of (map lexeme_of tokens.now))) (Said.Names atoms)) }
+    ensures stop { IfErr result (IsFormStop (draft_of reading.now) (declaration (words_of (map lexeme_of tokens.now)))) }
+{
+    if any_reserved(tokens) {
+        return Err(LineStop::Fault(TextKind::Reserved));
+    }
+    if !are_distinct(reading.alloc, tokens)? {
+        return Err(LineStop::Fault(TextKind::Twice));
+    }
+    if any_declared(&reading.atoms, tokens) {
+        return Err(LineStop::Fault(TextKind::Twice));
+    }
+    if tokens.len() > (32 - reading.atoms.len()) as usize {
+        return Err(LineStop::Fault(TextKind::TooMany));
+    }
+    if any_long(tokens) {
+        return Err(LineStop::Fault(TextKind::TooMany));
+    }
+    Ok(extended(reading.alloc, &reading.atoms, tokens)?)
+}
+
+/// What a line of this form says, or its least fault.
+fn judge_form(reading: &Reading, form: LineForm) -> Result<Said, LineStop>
+    requires { (f : Form) × IsForm form f }
+    ensures said { (f : Form) → IsForm form.entry f → IfOk result (IsSaid (draft_of reading.now) f) }
+    ensures stop { (f : Form) → IsForm form.entry f → IfErr result (IsFormStop (draft_of reading.now) f) }
+{
+    match form {
+        LineForm::Blank => Ok(Said::Nothing),
+        LineForm::Atoms(names) => {
+            let atoms = judge_names(reading, names)?;
+            Ok(Said::Names(atoms))
+        }
+        LineForm::Constraint(tokens) => {
+            let constraint = judge_condition(reading, tokens)?;
+            Ok(Said::Condition(constraint))
+        }
+        LineForm::Agent(name, times, tokens) => {
+            let agent = judge_belief(reading, name, times, tokens)?;
+            Ok(Said::Belief(agent))
+        }
+        LineForm::Ask(tokens) => {
+            let ask = judge_query(reading, tokens)?;
+            Ok(Said::Query(ask))
+        }
+        LineForm::Unknown => Err(LineStop::Fault(TextKind::BadLine)),
+    }
+}
+
+/// What a line says after what was read, or its least fault; `NoMemory` for want of memory.
+pub fn judge(reading: &Reading, line: &[u8]) -> Result<Said, LineStop>
+    ensures said { IfOk result (Says (draft_of reading.now) line.now) }
+    ensures stop { IfErr result (IsLineStop (draft_of reading.now) line.now) }
+{
+    match tokens(reading.alloc, content(line))? {
+        None => Err(LineStop::Fault(TextKind::BadByte)),
+        Some(tokens) => judge_form(reading, form_of(&tokens)),
+    }
+}

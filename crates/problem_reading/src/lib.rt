@@ -1,0 +1,15 @@
+// Reading a problem text line by line, with the least fault of each line.
+#![tactic(auto)]
+
+mod formula;
+mod judging;
+mod lines;
+mod names;
+mod reading;
+mod said;
+mod stop;
+
+pub use judging::judge;
+pub use reading::Reading;
+pub use said::Said;
+pub use stop::{LineStop, TextFault, TextKind, TextStop};

@@ -1,0 +1,92 @@
+ghost use Rattle.std.specs.Prelude.{◌≡◌, [], None};
+ghost use Rattle.problem_reading.specs.Kept.{IsCounted};
+
+use crate::said::Said;
+use edge::NoMemory;
+use formulas::{Atoms, Formula};
+use merge_model::Agent;
+use std::alloc::Global;
+
+/// What the lines read so far declare.
+#[derive(Drop)]
+pub struct Reading {
+    /// Where the memory of what is declared comes from.
+    pub alloc: Global,
+    /// The atoms, in order of declaration.
+    pub atoms: Atoms,
+    /// The constraint, once its line came.
+    pub constraint: Option<Formula>,
+    /// The agents, in order.
+    pub agents: Vec<Agent>,
+    /// The queries, in order.
+    pub asks: Vec<Formula>,
+    /// The nodes of the constraint, 1 while it has no line.
+    pub constraint_nodes: u64,
+    /// The nodes of the bases and the queries.
+    pub other_nodes: u64,
+    /// How often the agents count together.
+    pub times: u32,
+    /// The number of lines.
+    pub lines: u64,
+    pub ghost counted: { IsCounted constraint agents.items asks.items constraint_nodes other_nodes times },
+}
+
+impl Reading {
+    /// A reading of no lines.
+    pub fn new(alloc: Global) -> Reading
+        ensures atoms { result.atoms ≡ [] }
+        ensures constraint { result.constraint ≡ None }
+        ensures agents { result.agents.items ≡ [] }
+        ensures asks { result.asks.items ≡ [] }
+        ensures lines { result.lines ≡ 0 }
+    {
+        Reading {
+            alloc,
+            atoms: Atoms::new(alloc),
+            constraint: None,
+            agents: Vec::new(alloc),
+            asks: Vec::new(alloc),
+            constraint_nodes: 1,
+            other_nodes: 0,
+            times: 0,
+            lines: 0,
+        }
+    }
+}
+
+impl Reading {
+    ghost use Rattle.std.specs.Prelude.{OnOk, OnErr};
+    ghost use Rattle.problem_reading.specs.Fitting.{Fits};
+    ghost use Rattle.problem_reading.specs.Saying.{after};
+    ghost use Rattle.problem_reading.specs.Views.{draft_of};
+
+    /// Takes in what a line said; `NoMemory` leaves the reading as it was.
+    pub(crate) fn take(&mut self, said: Said) -> Result<(), NoMemory>
+        requires { Fits (draft_of self.old) said }
+        ensures taken { OnOk result (draft_of self.new ≡ after (draft_of self.old) said) }
+        ensures kept { OnErr result (draft_of self.new ≡ draft_of self.old) }
+        ensures lines { self.new.lines ≡ self.old.lines }
+    {
+        match said {
+            Said::Nothing => {}
+            Said::Names(atoms) => self.atoms = atoms,
+            Said::Condition(constraint) => {
+                self.constraint_nodes = constraint.nodes();
+                self.constraint = Some(constraint);
+            }
+            Said::Belief(agent) => {
+                let nodes = agent.base.nodes();
+                let times = agent.times;
+                self.agents.push(agent)?;
+                self.other_nodes += nodes;
+                self.times += times;
+            }
+            Said::Query(ask) => {
+                let nodes = ask.nodes();
+                self.asks.push(ask)?;
+                self.other_nodes += nodes;
+            }
+        }
+        Ok(())
+    }
+}
