@@ -1,1 +1,2 @@
+pub mod FirstKind
 pub mod ProblemText
