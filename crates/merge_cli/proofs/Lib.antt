@@ -1,4 +1,6 @@
 pub mod Laws
+pub mod Problems
 pub mod Replies
 pub mod ReportTexts
+pub mod Told
 pub mod WordLists

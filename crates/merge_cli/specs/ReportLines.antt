@@ -8,6 +8,8 @@ use Rattle.merge_model.specs.declared.answer.Answer.TheVariants.{Merged, Inconsi
 use Rattle.merge_model.specs.declared.answer.Shown.{Shown}
 use Rattle.merge_model.specs.declared.answer.Verdict.{Verdict}
 use Rattle.merge_model.specs.declared.answer.Verdict.TheVariants.{Yes, No}
+use Rattle.merge_model.specs.declared.problem.Problem.{Problem}
+use Rattle.profile_text.specs.ProblemText.{problem_text}
 use Rattle.merge_cli.specs.Forms.{distance_word, aggregator_word}
 
 -- a line: its words with one blank between them, and a line feed
@@ -62,3 +64,8 @@ abbrev pub answer_lines : Answer → List (List (List ℕ))
 answer_lines (Merged best measure verdicts) = shown_lines best ++ (codes "measure" ∷ map decimal measure) ∷ verdicts_from 1 verdicts
 answer_lines (Inconsistent constraint agents) = named_line (codes "constraint" ∷ []) constraint ∷ named_from 1 agents
 answer_lines GaveUp = (codes "gave-up" ∷ []) ∷ []
+
+-- the report on a problem, without its log: what was asked, the problem, and the answer
+abbrev pub report_text : DistanceName → AggregatorName → ℕ → Problem → Answer → List ℕ
+report_text distance aggregator conflicts problem answer =
+    text_of (head_lines distance aggregator conflicts) ++ problem_text problem ++ text_of (answer_lines answer)

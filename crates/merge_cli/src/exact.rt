@@ -2,7 +2,12 @@
 ghost use Rattle.std.specs.Prelude.{◌≡◌, ◌≢◌, ◌<◌, ℕ, List, Option, codes, length};
 ghost use Rattle.merge_cli.specs.Forms.{IsNoForm, IsFormOf};
 ghost use Rattle.merge_cli.specs.declared.forms.Form.{Form};
-ghost use Rattle.merge_cli.specs.Merge.{most_bytes};
+ghost use Rattle.merge_model.specs.declared.operator.DistanceName.{DistanceName};
+ghost use Rattle.merge_model.specs.declared.operator.AggregatorName.{AggregatorName};
+ghost use Rattle.merge_model.specs.declared.problem.Problem.{Problem};
+ghost use Rattle.merge_model.specs.Answers.{profile_of};
+ghost use Rattle.merge_model.specs.Merging.{LacksModel};
+ghost use Rattle.merge_cli.specs.Merge.{most_bytes, ProblemAnswers};
 ghost use Rattle.merge_cli.specs.Answers.{Answers, ReadsProblem};
 
 /// Status 2 is the answer exactly where the words are none of the forms, and what stops a run is no answer.
@@ -23,4 +28,13 @@ pub fn too_long_is_exact()
         → (status ≡ 1) × (text ≡ codes "refused: too long\n") }
     ensures only { (words : List (List ℕ)) (before now : Option (List ℕ)) (read : List ℕ) (text : List ℕ)
         → Answers words before now read 1 text → most_bytes < length read }
+{}
+
+/// A problem whose constraint or one of whose bases has no model is never merged, and only such a
+/// problem is said to lack a model.
+pub fn lacking_is_exact()
+    ensures only { (distance : DistanceName) (aggregator : AggregatorName) (problem : Problem) (text : List ℕ)
+        → ProblemAnswers distance aggregator problem 8 text → LacksModel (profile_of problem) }
+    ensures never_merged { (distance : DistanceName) (aggregator : AggregatorName) (problem : Problem) (text : List ℕ)
+        → ProblemAnswers distance aggregator problem 0 text → LacksModel (profile_of problem) → ⊥ }
 {}

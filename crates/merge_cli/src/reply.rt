@@ -1,5 +1,6 @@
-ghost use Rattle.std.specs.Prelude.{◌≡◌, IfOk, OnErr};
+ghost use Rattle.std.specs.Prelude.{◌≡◌, IfOk};
 
+use edge::NoMemory;
 use std::alloc::Global;
 
 /// A status with the text to send.
@@ -18,13 +19,20 @@ pub enum Stop {
     NoMemory,
 }
 
-/// The reply with this text.
-pub fn says(alloc: Global, status: u8, text: &[u8]) -> Result<Reply, Stop>
-    ensures ok { IfOk result (λ reply. (reply.status ≡ status) × (reply.text.items ≡ text.now)) }
-    ensures err { OnErr result (result ≡ Err Stop.NoMemory) }
-{
-    match Vec::from_slice(alloc, text) {
-        Ok(text) => Ok(Reply { status, text }),
-        Err(_) => Err(Stop::NoMemory),
+ghost use Rattle.merge_cli.specs.declared.reply.Stop.TheVariants as stop;
+
+impl From<NoMemory> for Stop {
+    ghost from_gives = { λ _ e. e ≡ stop.NoMemory };
+
+    fn from(_refused: NoMemory) -> Self {
+        Stop::NoMemory
     }
+}
+
+/// The reply with this text.
+pub fn says(alloc: Global, status: u8, text: &[u8]) -> Result<Reply, NoMemory>
+    ensures { IfOk result (λ reply. (reply.status ≡ status) × (reply.text.items ≡ text.now)) }
+{
+    let text = Vec::from_slice(alloc, text)?;
+    Ok(Reply { status, text })
 }

@@ -9,6 +9,9 @@ pub const REFUSED: u8 = 1;
 /// The words are none of the forms.
 pub const REFUSED_WORDS: u8 = 2;
 
+/// The search gave up.
+pub const GAVE_UP: u8 = 3;
+
 /// A read failed.
 pub const READ_FAULT: u8 = 4;
 
@@ -18,5 +21,8 @@ pub const WRITE_FAULT: u8 = 5;
 /// Memory was refused.
 pub const NO_MEMORY: u8 = 6;
 
-/// The text is legal, and what it asks is not built yet.
+/// The constraint or a base has no model.
+pub const LACKS_MODEL: u8 = 8;
+
+/// The text is none of those that are answered so far.
 pub const NOT_BUILT: u8 = 9;

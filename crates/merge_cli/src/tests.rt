@@ -5,6 +5,11 @@ use std::test::Fail;
 
 const TEXT: &str = "atoms a\nconstraint !a\nagent p : a\nask !a\n";
 
+const REPORT: &str =
+    "merge-report 1\ndistance hamming\naggregator sum\nconflicts 100000\natoms a\nconstraint !a\nagent p : a\nask !a\nmodel 0\nvector 1\nnearest 1\nmeasure 1\nverdict 1 yes\n";
+
+const NO_ASK: &str = "atoms a\nconstraint !a\nagent p : a\n";
+
 fn words_of(alloc: Global, text: &str) -> Result<Words, Fail> {
     let mut words = Words::new(alloc);
     for word in text.split_whitespace() {
@@ -17,29 +22,20 @@ fn words_of(alloc: Global, text: &str) -> Result<Words, Fail> {
 fn answers_with_ample_memory(rt: HostRuntime) -> Result<(), Fail> {
     let alloc = rt.alloc();
     let rows = [
-        ("merge hamming sum", TEXT, 9, "refused: not built\n"),
+        ("merge hamming sum", TEXT, 0, REPORT),
+        ("merge hamming sum", NO_ASK, 9, "refused: not built\n"),
         ("merge hamming", TEXT, 2, "refused words\n"),
         ("list hamming sum 0", TEXT, 2, "refused words\n"),
         ("bench 01", "", 2, "refused words\n"),
         ("", "", 2, "refused words\n"),
     ];
     for (words, bytes, status, text) in rows {
+        let words = words_of(alloc, words)?;
         let mut source = PlainSource::new(Vec::from_slice(alloc, bytes.as_bytes())?);
-        let outcome = run(
-            alloc,
-            &words_of(alloc, words)?,
-            &mut source,
-            &mut NullSink::new(),
-        );
-        assert_eq!(rt; outcome.status, status, "{words}");
-        assert_eq!(rt; outcome.text.as_slice(), text.as_bytes(), "{words}");
-        assert_eq!(rt; outcome.sent, text.len(), "{words}");
-    }
-    for (length, status) in [(262_144, 9), (262_145, 1)] {
-        let mut source = PlainSource::new(vec![in alloc; b'#'; length]?);
-        let words = words_of(alloc, "merge hamming sum")?;
         let outcome = run(alloc, &words, &mut source, &mut NullSink::new());
-        assert_eq!(rt; outcome.status, status, "{length} bytes");
+        assert_eq!(rt; outcome.status, status);
+        assert_eq!(rt; outcome.text.as_slice(), text.as_bytes());
+        assert_eq!(rt; outcome.sent, text.len());
     }
     Ok(())
 }
@@ -47,11 +43,11 @@ fn answers_with_ample_memory(rt: HostRuntime) -> Result<(), Fail> {
 #[test]
 fn names_a_failed_read_and_a_full_sink(rt: HostRuntime) -> Result<(), Fail> {
     let alloc = rt.alloc();
+    let words = words_of(alloc, "merge hamming sum")?;
     // Which read fails, the status, how much is sent, and what the sink holds.
-    for (fail_at, status, sent, held) in [(2, 4, 0, ""), (0, 5, 10, "refused: n")] {
+    for (fail_at, status, sent, held) in [(2, 4, 0, ""), (0, 5, 10, "merge-repo")] {
         let mut source = MemorySource::new(Vec::from_slice(alloc, TEXT.as_bytes())?, 4, fail_at);
         let mut sink = MemorySink::new(alloc, 10, 3)?;
-        let words = words_of(alloc, "merge hamming sum")?;
         let outcome = run(alloc, &words, &mut source, &mut sink);
         assert_eq!(rt; outcome.status, status);
         assert_eq!(rt; outcome.sent, sent);

@@ -1,9 +1,11 @@
-ghost use Rattle.std.specs.Prelude.{◌≡◌, ◌≢◌, ◌⊎◌, ℕ, ◌<◌, ◌≤◌, ◌-◌, ◌↔◌, [], length, take, codes, IfOk, IsErrOf};
-ghost use Rattle.std.specs.Io.KnownBytes.{Appends};
+ghost use Rattle.std.specs.Prelude.{◌≡◌, ◌≢◌, ◌⊎◌, ℕ, ◌<◌, ◌≤◌, ◌-◌, ◌↔◌, List, [], length, take, codes, Option, Some, IfOk, IsErrOf};
+ghost use Rattle.std.specs.Io.KnownBytes.{Appends, IsAtEnd};
 ghost use Rattle.edge.specs.Faults.{Rose};
-ghost use Rattle.merge_cli.specs.Forms.{IsNoForm};
+ghost use Rattle.merge_cli.specs.Forms.{IsFormOf, IsNoForm};
 ghost use Rattle.merge_cli.specs.Answers.{Answers, Answered, CommandAnswers, Reads, IsReading, IsUnread, IsProblemCommand};
-ghost use Rattle.merge_cli.specs.Merge.{most_bytes};
+ghost use Rattle.merge_cli.specs.Merge.{most_bytes, IsNotBuilt, ReportsMerge, ReportsLack};
+ghost use Rattle.merge_model.specs.declared.operator.DistanceName.{DistanceName};
+ghost use Rattle.merge_model.specs.declared.operator.AggregatorName.{AggregatorName};
 
 use crate::forms::{Form, form_of};
 use crate::merging;
@@ -45,7 +47,7 @@ fn reply<S: Source>(alloc: Global, words: &Words, source: &mut S) -> Result<Repl
     ensures unread { IsUnread words.now → source.new ≡ source.old }
 {
     match form_of(words) {
-        None => says(alloc, REFUSED_WORDS, b"refused words\n"),
+        None => Ok(says(alloc, REFUSED_WORDS, b"refused words\n")?),
         Some(form) => command_reply(alloc, form, source),
     }
 }
@@ -56,7 +58,9 @@ fn reply<S: Source>(alloc: Global, words: &Words, source: &mut S) -> Result<Repl
 /// - 2: the words are none of the forms; nothing is read.
 /// - 4: a read failed; there is no text and the sink is not called.
 /// - 1: the text is refused: it has more than 262,144 bytes.
-/// - 9: what the text asks is not built yet.
+/// - 9: the text is none of those that are answered so far.
+/// - 8: the constraint or a base has no model; the text is the report that says which.
+/// - 0: the text is the report on the merged problem.
 /// - 5: a write failed; the sink took the first `sent` bytes of the text.
 /// - 6: memory was refused, at any place before the sending; there is no text and the sink is not called.
 pub fn run<S: Source, K: Sink>(
@@ -79,6 +83,18 @@ pub fn run<S: Source, K: Sink>(
         → ((result.status ≡ 1) × (result.text.items ≡ codes "refused: too long\n"))
         ↔ (IsProblemCommand words.now × (most_bytes < S.room source.old - S.room source.new)) }
 
+    // Where the source tells its bytes, the answer is that to these bytes.
+    ensures merged { (bytes : List ℕ) (distance : DistanceName) (aggregator : AggregatorName)
+        → S.left source.old ≡ Some bytes → IsFormOf words.now (Form.Merge distance aggregator)
+        → result.status ≡ 0 → ReportsMerge distance aggregator bytes result.text.items }
+    ensures lacks_model { (bytes : List ℕ) (distance : DistanceName) (aggregator : AggregatorName)
+        → S.left source.old ≡ Some bytes → IsFormOf words.now (Form.Merge distance aggregator)
+        → result.status ≡ 8 → ReportsLack distance aggregator bytes result.text.items }
+    ensures not_built { (bytes : List ℕ) (distance : DistanceName) (aggregator : AggregatorName)
+        → S.left source.old ≡ Some bytes → IsFormOf words.now (Form.Merge distance aggregator)
+        → result.status ≢ 4 → result.status ≢ 5 → result.status ≢ 6
+        → (result.status ≡ 9) ↔ ((length bytes ≤ most_bytes) × IsNotBuilt bytes) }
+
     ensures read_fault { result.status ≡ 4 → IsReading words.now × Rose (S.faults source.old) (S.faults source.new) }
     ensures write_fault { result.status ≡ 5 → (result.sent < length result.text.items) × Rose (K.faults sink.old) (K.faults sink.new) }
     ensures stopped { (result.status ≡ 4) ⊎ (result.status ≡ 6) → (result.text.items ≡ []) × (sink.new ≡ sink.old) }
@@ -86,6 +102,9 @@ pub fn run<S: Source, K: Sink>(
     ensures sent { Appends (K.taken sink.old) (K.taken sink.new) (take result.sent result.text.items) }
     ensures whole { result.status ≢ 5 → result.sent ≡ length result.text.items }
 
+    // A text that is answered was read to its end, and a run that asks no text reads nothing.
+    ensures at_end { result.status ≢ 1 → result.status ≢ 2 → result.status ≢ 4 → result.status ≢ 5 → result.status ≢ 6
+        → IsAtEnd (S.left source.new) }
     ensures unread { IsUnread words.now → source.new ≡ source.old }
     ensures source_faults { S.faults source.old ≤ S.faults source.new }
     ensures sink_faults { K.faults sink.old ≤ K.faults sink.new }

@@ -1,5 +1,6 @@
 use Rattle.std.proofs.Common.{inl, inr}
-use Rattle.merge_cli.proofs.Laws.{no_stop, refused_exact, too_long_exact}
+use Rattle.merge_cli.proofs.Laws.{no_stop, refused_exact, too_long_exact, answered_at_end}
+use Rattle.merge_cli.proofs.Told.{told_merged, told_lacking, told_not_built}
 use Rattle.merge_cli.proofs.top.run.Goals as goal
 
 pub returns-in-Ok-send_all-clause-read_fault : goal.returns-in-Ok-send_all-clause-read_fault
@@ -18,3 +19,15 @@ returns-in-Ok-send_all-clause-refused_words g c = λ five six. refused_exact _ _
 
 pub returns-in-Ok-send_all-clause-too_long : goal.returns-in-Ok-send_all-clause-too_long
 returns-in-Ok-send_all-clause-too_long g c = λ four five six. too_long_exact _ _ _ _ _ _ _ c.in-Ok.ensures.ok
+
+pub returns-in-Ok-send_all-clause-merged : goal.returns-in-Ok-send_all-clause-merged
+returns-in-Ok-send_all-clause-merged g c = told_merged _ _ _ _ _ _ _ c.in-Ok.ensures.ok
+
+pub returns-in-Ok-send_all-clause-lacks_model : goal.returns-in-Ok-send_all-clause-lacks_model
+returns-in-Ok-send_all-clause-lacks_model g c = told_lacking _ _ _ _ _ _ _ c.in-Ok.ensures.ok
+
+pub returns-in-Ok-send_all-clause-not_built : goal.returns-in-Ok-send_all-clause-not_built
+returns-in-Ok-send_all-clause-not_built g c = λ bytes d a told of four five six. told_not_built _ _ _ _ _ _ _ c.in-Ok.ensures.ok bytes d a told of
+
+pub returns-in-Ok-send_all-clause-at_end : goal.returns-in-Ok-send_all-clause-at_end
+returns-in-Ok-send_all-clause-at_end g c = λ one two four five six. answered_at_end _ _ _ _ _ _ c.in-Ok.ensures.ok.answers one two
