@@ -1,0 +1,87 @@
+-- What is due for a copy is a copy.
+use Rattle.std.proofs.Common.{◌≡◌, ℕ, zero, suc, ◌+◌, ◌<◌, ◌≤◌, ◌^◌, Bool, List, [], ◌∷◌, ◌++◌, length, refl, sym, ap, ◌∙◌, subst, arith, append_assoc}
+use Rattle.std.specs.Prelude.{map, slice_index}
+use Rattle.clause_store.specs.declared.lit.Lit.{Lit}
+use Rattle.clause_store.specs.Lits.{positive_lit, sorted_clause, IsWithin, InRange}
+use Rattle.clause_store.specs.Clauses.{Clauses}
+use Rattle.clause_store.specs.Grew.{Grew}
+use Rattle.clause_store.specs.Truth.{Satisfies}
+use Rattle.clause_store.specs.Extends.{Extends, Are, Always}
+use Rattle.clause_store.proofs.Truths.{within_more, all_true-append, and_left, and_right}
+use Rattle.clause_store.proofs.Blocks.{next_are}
+use Rattle.clause_store.proofs.Grows.{stored-append, grew_front, grew_next}
+use Rattle.formulas.specs.declared.formula.Formula.{Formula}
+use Rattle.formulas.specs.Formulas.{nodes_of, width_of}
+use Rattle.clause_translation.specs.Definition.{Definition, definition}
+use Rattle.clause_translation.proofs.Parts.{root_is, some_node}
+use Rattle.clause_translation.proofs.Defines.{defines}
+use Rattle.totalizer.specs.Counter.{Due, count_of, IsUnary, AreFresh}
+use Rattle.agent_copies.specs.Counter.{truth_of, IsCounter}
+use Rattle.agent_copies.specs.Differences.{fresh_vars}
+use Rattle.agent_copies.specs.Copy.{CopyDue, fresh_lits, copy_due, IsCopy}
+
+-- what the law of a distance says
+abbrev pub Counts : (List Bool → List Bool → ℕ) → (ℕ → ℕ) → (ℕ → List Lit → List Lit → Due) → Type 0
+Counts dist most due = (v : ℕ) (shared own : List Lit) → length shared ≡ length own → 1 ≤ length shared → length shared ≤ 64 → InRange v shared → InRange v own → IsCounter v shared own dist (most (length shared)) (due v shared own)
+
+pub length-fresh_lits : (v n : ℕ) → length (fresh_lits v n) ≡ n
+length-fresh_lits v zero = refl
+length-fresh_lits v (suc n) = omega (arith, length-fresh_lits (v + 1) n)
+
+pub fresh_lits_in : (v n w : ℕ) → v + n ≤ w → InRange w (fresh_lits v n)
+fresh_lits_in v zero w h = tt
+fresh_lits_in v (suc n) w h = ((omega arith, omega arith), fresh_lits_in (v + 1) n w (omega arith))
+
+cons_above : (u v w x : ℕ) (ys : List ℕ) → u < x → x ≤ v → AreFresh v w ys → (k : ℕ) → k < length (x ∷ ys) → u < slice_index (x ∷ ys) k
+cons_above u v w x ys lo hi f zero lt = lo
+cons_above u v w x ys lo hi f (suc k) lt = let y = f.above k (omega arith) in omega arith
+
+cons_within : (u v w x : ℕ) (ys : List ℕ) → u < x → x ≤ v → v ≤ w → AreFresh v w ys → (k : ℕ) → k < length (x ∷ ys) → slice_index (x ∷ ys) k ≤ w
+cons_within u v w x ys lo hi le f zero lt = omega arith
+cons_within u v w x ys lo hi le f (suc k) lt = f.within k (omega arith)
+
+cons_distinct : (u v w x : ℕ) (ys : List ℕ) → x ≤ v → AreFresh v w ys → (j k : ℕ) → j < length (x ∷ ys) → k < length (x ∷ ys) → slice_index (x ∷ ys) j ≡ slice_index (x ∷ ys) k → j ≡ k
+cons_distinct u v w x ys hi f zero zero hj hk e = refl
+cons_distinct u v w x ys hi f zero (suc k) hj hk e = absurd (let y = f.above k (omega arith) in omega arith)
+cons_distinct u v w x ys hi f (suc j) zero hj hk e = absurd (let y = f.above j (omega arith) in omega arith)
+cons_distinct u v w x ys hi f (suc j) (suc k) hj hk e = ap suc (f.distinct j k (omega arith) (omega arith) e)
+
+-- one more variable, below the others
+pub fresh_cons : (u v w x : ℕ) (ys : List ℕ) → u < x → x ≤ v → v ≤ w → AreFresh v w ys → AreFresh u w (x ∷ ys)
+fresh_cons u v w x ys lo hi le f = record {
+  above = cons_above u v w x ys lo hi f;
+  within = cons_within u v w x ys lo hi le f;
+  distinct = cons_distinct u v w x ys hi f;
+}
+
+fresh_row : (v n w : ℕ) (ys : List ℕ) → v + n ≤ w → AreFresh (v + n) w ys → AreFresh v w (fresh_vars v n ++ ys)
+fresh_row v zero w ys le f = let e : v + 0 ≡ v = omega arith in subst (λ n. AreFresh n w ys) e f
+fresh_row v (suc n) w ys le f =
+    let e : v + suc n ≡ v + 1 + n = omega arith in
+    fresh_cons v (v + 1) w (v + 1) (fresh_vars (v + 1) n ++ ys) (omega arith) (omega arith) (omega arith)
+    (fresh_row (v + 1) n w ys (omega arith) (subst (λ m. AreFresh m w ys) e f))
+
+-- what is due for a copy is a copy
+pub copy_is : (dist : List Bool → List Bool → ℕ) (most : ℕ → ℕ) (due : ℕ → List Lit → List Lit → Due) → Counts dist most due → (v : ℕ) (shared : List Lit) (base : Formula) → 1 ≤ length shared → length shared ≤ 64 → InRange v shared → width_of base ≤ length shared → IsCopy v shared base dist (most (length shared)) (copy_due due v shared base)
+copy_is dist most due law v shared base lo hi in_range wide =
+    let n = length shared in
+    let own = fresh_lits v n in
+    let ln = length-fresh_lits v n in
+    let d = definition own base (v + n) in
+    let rn = root_is base own (v + n) in
+    let sn = some_node base in
+    let c = due d.root shared own in
+    let defined = defines base (v + n) own (fresh_lits_in v n (v + n) (omega arith)) (omega (arith, ln)) in
+    let counted = law d.root shared own (sym ln) lo hi (within_more v d.root shared (omega (arith, rn)) in_range) (fresh_lits_in v n d.root (omega (arith, rn))) in
+    let split : (b : ℕ → Bool) → Satisfies b (d.clauses ++ c.clauses) → Satisfies b d.clauses × Satisfies b c.clauses = λ b r. let s = sym (all_true-append b d.clauses c.clauses) ∙ r in (and_left _ _ s, and_right _ _ s) in
+    let grows = counted.extends.grows in
+    let few = counted.few in
+    record {
+      extends = next_are Always Always (v + n) d.root c.vars d.clauses c.clauses defined.extends counted.extends (λ b p r. tt);
+      few = omega (arith, rn, few);
+      root = λ b r. defined.value b (split b r).0;
+      in_order = λ b r. counted.in_order b (split b r).1;
+      value = λ b r. counted.value b (split b r).1;
+      size = counted.size;
+      fresh = fresh_row v n c.vars (d.root ∷ c.outputs) (omega (arith, rn, grows)) (fresh_cons (v + n) d.root c.vars d.root c.outputs (omega (arith, rn, sn)) (omega arith) grows counted.fresh);
+    }

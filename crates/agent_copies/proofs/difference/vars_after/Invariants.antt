@@ -1,0 +1,6 @@
+use Rattle.std.proofs.Common.{◌≡◌}
+use Rattle.agent_copies.specs.Differences.{fresh_vars}
+use Rattle.agent_copies.proofs.difference.vars_after.Given as goal
+
+abbrev pub invariant-loop-i : goal.invariant-loop-i
+invariant-loop-i l = l.vars.items ≡ fresh_vars l.last l.i

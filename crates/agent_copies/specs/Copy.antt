@@ -1,0 +1,45 @@
+-- What is due for the copy of an agent.
+use Rattle.std.specs.Prelude.{◌≡◌, ℕ, ◌+◌, ◌≤◌, ◌^◌, Bool, List, ◌∷◌, ◌++◌, length, map}
+use Rattle.clause_store.specs.declared.lit.Lit.{Lit}
+use Rattle.clause_store.specs.Lits.{positive_lit}
+use Rattle.clause_store.specs.Truth.{Satisfies}
+use Rattle.clause_store.specs.Extends.{Extends, Are, Always}
+use Rattle.formulas.specs.declared.formula.Formula.{Formula}
+use Rattle.formulas.specs.Formulas.{nodes_of, holds}
+use Rattle.clause_translation.specs.Definition.{definition}
+use Rattle.totalizer.specs.Counter.{Due, count_of, IsUnary, AreFresh}
+use Rattle.agent_copies.specs.Counter.{truth_of}
+use Rattle.agent_copies.specs.Differences.{fresh_vars}
+
+-- clauses as they are made, the number of variables then, the own literals, the root of the base and the outputs of
+-- the counter
+pub record CopyDue : Type 0 where
+  pub clauses : List (List Lit)
+  pub vars : ℕ
+  pub own : List Lit
+  pub root : ℕ
+  pub away : List ℕ
+
+-- the literals of the n variables after v
+abbrev pub fresh_lits : ℕ → ℕ → List Lit
+fresh_lits v n = map positive_lit (fresh_vars v n)
+
+-- own literals, as many as there are shared ones; the base over them; the counter, for which `due` says what is due
+abbrev pub copy_due : (ℕ → List Lit → List Lit → Due) → ℕ → List Lit → Formula → CopyDue
+copy_due due v shared base =
+    let own = fresh_lits v (length shared) in
+    let defined = definition own base (v + length shared) in
+    let counter = due defined.root shared own in
+    record { clauses = defined.clauses ++ counter.clauses; vars = counter.vars; own = own; root = defined.root; away = counter.outputs }
+
+-- whatever the own literals are, the clauses hold in exactly one extension; there the root has the value of the base
+-- at the own literals, and the counter counts the distance from the shared literals to the own ones. The own
+-- literals, the root and the outputs are on distinct fresh variables
+pub record IsCopy (v : ℕ) (shared : List Lit) (base : Formula) (dist : List Bool → List Bool → ℕ) (top : ℕ) (c : CopyDue) : Type 0 where
+  pub extends : Extends Always (Are c.clauses) (v + length shared) c.vars
+  pub few : c.vars ≤ v + length shared + nodes_of base + 2 ^ 16
+  pub root : (b : ℕ → Bool) → Satisfies b c.clauses → b c.root ≡ holds base (truth_of b c.own)
+  pub in_order : (b : ℕ → Bool) → Satisfies b c.clauses → IsUnary b c.away
+  pub value : (b : ℕ → Bool) → Satisfies b c.clauses → count_of b c.away ≡ dist (truth_of b shared) (truth_of b c.own)
+  pub size : length c.away ≡ top
+  pub fresh : AreFresh v c.vars (fresh_vars v (length shared) ++ c.root ∷ c.away)

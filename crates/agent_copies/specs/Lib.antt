@@ -1,0 +1,4 @@
+pub mod Counter
+pub mod Differences
+pub mod CounterLaws
+pub mod Copy

@@ -1,0 +1,67 @@
+// Difference variables.
+
+ghost use Rattle.std.specs.Prelude.{◌≡◌, ℕ, ◌+◌, ◌<◌, ◌≤◌, ◌^◌, [], ◌∷◌, ◌++◌, IfOk, OnOk, OnErr, length, map};
+ghost use Rattle.clause_store.specs.Lits.{sorted_clause, IsWithin, InRange};
+ghost use Rattle.clause_store.specs.Grew.{Grew};
+ghost use Rattle.totalizer.specs.Joined.{joined};
+ghost use Rattle.agent_copies.specs.Differences.{difference_clauses, difference_at, fresh_vars};
+
+use clause_store::{ClauseList, Lit};
+use edge::NoMemory;
+use std::alloc::Global;
+
+// The clauses of one difference.
+#[tactic(auto, using(clause_store::proofs::Grows::grew_none, clause_store::proofs::Grows::grew_one, clause_store::proofs::Grows::grew_two, clause_store::proofs::Grows::grew_three))]
+fn add_difference(
+    clauses: &mut ClauseList,
+    difference: Lit,
+    left: Lit,
+    right: Lit,
+) -> Result<(), NoMemory>
+    requires difference { IsWithin clauses.old.vars difference }
+    requires left { IsWithin clauses.old.vars left }
+    requires right { IsWithin clauses.old.vars right }
+    ensures vars { clauses.new.vars ≡ clauses.old.vars }
+    ensures list { OnOk result (clauses.new.list ≡ clauses.old.list ++ map sorted_clause (difference_clauses difference left right)) }
+    ensures err { OnErr result (Grew clauses.old clauses.new (difference_clauses difference left right)) }
+{
+    clauses.add(&[difference.negated(), left, right])?;
+    clauses.add(&[difference.negated(), left.negated(), right.negated()])?;
+    clauses.add(&[difference, left.negated(), right])?;
+    clauses.add(&[difference, left, right.negated()])?;
+    Ok(())
+}
+
+// A fresh variable for each place, true exactly where the literals there differ.
+pub fn add_differences(
+    clauses: &mut ClauseList,
+    shared: &[Lit],
+    own: &[Lit],
+) -> Result<(), NoMemory>
+    requires lengths { length shared.now ≡ length own.now }
+    requires shared_in { InRange clauses.old.vars shared.now }
+    requires own_in { InRange clauses.old.vars own.now }
+    requires room { clauses.old.vars + length shared.now ≤ 2 ^ 31 }
+    ensures vars { OnOk result (clauses.new.vars ≡ clauses.old.vars + length shared.now) }
+    ensures list { OnOk result (clauses.new.list ≡ clauses.old.list ++ map sorted_clause (joined (difference_at clauses.old.vars shared.now own.now) (length shared.now))) }
+    ensures err { OnErr result (Grew clauses.old clauses.new (joined (difference_at clauses.old.vars shared.now own.now) (length shared.now))) }
+{
+    for i in 0..shared.len() {
+        let difference = clauses.fresh();
+        add_difference(clauses, difference, shared[i], own[i])?;
+    }
+    Ok(())
+}
+
+// The variables after one.
+#[tactic(auto, using(crate::proofs::Steps::fresh_step))]
+pub fn vars_after(alloc: Global, last: u32, count: usize) -> Result<Vec<u32>, NoMemory>
+    requires { last + count ≤ 2 ^ 31 }
+    ensures { IfOk result (λ vars. vars.items ≡ fresh_vars last count) }
+{
+    let mut vars = Vec::with_capacity(alloc, count)?;
+    for i in 0..count {
+        vars.push(last + i as u32 + 1)?;
+    }
+    Ok(vars)
+}

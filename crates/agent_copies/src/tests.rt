@@ -1,0 +1,71 @@
+// The copies of an agent over one atom.
+
+use crate::{AgentCopy, copy_agent};
+use clause_store::{ClauseList, Lit};
+use formulas::Formula;
+use merge_model::{Drastic, Hamming};
+use std::process::Abort;
+use std::test::Fail;
+
+fn yes(var: u32) -> Lit {
+    Lit {
+        var,
+        positive: true,
+    }
+}
+
+fn no(var: u32) -> Lit {
+    Lit {
+        var,
+        positive: false,
+    }
+}
+
+// The base over the own literal, and the difference of the two literals.
+fn assert_copied(rt: &impl Abort, clauses: &ClauseList, copy: &AgentCopy) {
+    assert_eq!(rt; copy.own.as_slice(), [yes(2)].as_slice());
+    assert_eq!(rt; copy.root, yes(3));
+    assert!(rt; clauses.len() >= 6);
+    assert_eq!(rt; clauses.clause(0), [yes(2), no(3)].as_slice());
+    assert_eq!(rt; clauses.clause(1), [no(2), yes(3)].as_slice());
+    assert_eq!(rt; clauses.clause(2), [yes(1), yes(2), no(4)].as_slice());
+    assert_eq!(rt; clauses.clause(3), [no(1), no(2), no(4)].as_slice());
+    assert_eq!(rt; clauses.clause(4), [no(1), yes(2), yes(4)].as_slice());
+    assert_eq!(rt; clauses.clause(5), [yes(1), no(2), yes(4)].as_slice());
+}
+
+#[test]
+fn the_hamming_copy_of_an_atom_counts_one_difference(rt: HostRuntime) -> Result<(), Fail> {
+    let mut clauses = ClauseList::new(rt.alloc());
+    let shared = [clauses.fresh()];
+    let copy = copy_agent(
+        rt.alloc(),
+        &mut clauses,
+        &shared,
+        &Formula::Atom(0),
+        &Hamming,
+    )?;
+    assert_copied(&rt, &clauses, &copy);
+    assert_eq!(rt; copy.away.outputs(), [4].as_slice());
+    assert_eq!(rt; clauses.len(), 6);
+    Ok(())
+}
+
+#[test]
+fn the_drastic_copy_of_an_atom_asks_for_some_difference(rt: HostRuntime) -> Result<(), Fail> {
+    let mut clauses = ClauseList::new(rt.alloc());
+    let shared = [clauses.fresh()];
+    let copy = copy_agent(
+        rt.alloc(),
+        &mut clauses,
+        &shared,
+        &Formula::Atom(0),
+        &Drastic,
+    )?;
+    assert_copied(&rt, &clauses, &copy);
+    assert_eq!(rt; copy.away.outputs(), [5].as_slice());
+    assert_eq!(rt; clauses.len(), 8);
+    assert_eq!(rt; clauses.clause(6), [no(4), yes(5)].as_slice());
+    assert_eq!(rt; clauses.clause(7), [yes(4), no(5)].as_slice());
+    Ok(())
+}
