@@ -7,11 +7,19 @@ use Rattle.clause_store.specs.Lits.{has}
 use Rattle.cdcl_core.specs.declared.choice.Choice.{Choice}
 use Rattle.cdcl_core.specs.declared.choice.Choice.TheVariants.{Contrary, Assume, Free, Full}
 
+-- the literal is of a variable in range, and has no value
+abbrev pub IsFree : Trace → Lit → Type 0
+IsFree t l = (1 ≤ l.var) × (l.var ≤ t.vars) × (value_of t.entries l ≡ None)
+
+-- each variable has a value
+abbrev pub IsFull : Trace → Type 0
+IsFull t = (v : ℕ) → 1 ≤ v → v ≤ t.vars → value_of t.entries (record { var = v; positive = false }) ≢ None
+
 abbrev pub IsChosen : List Lit → Trace → Choice → Type 0
 IsChosen assumptions t (Contrary l) = (Contains assumptions l) × (value_of t.entries l ≡ Some false)
 IsChosen assumptions t (Assume l) = (Contains assumptions l) × (value_of t.entries l ≡ None)
-IsChosen assumptions t (Free l) = All (λ l. value_of t.entries l ≡ Some true) assumptions × (1 ≤ l.var) × (l.var ≤ t.vars) × (value_of t.entries l ≡ None)
-IsChosen assumptions t Full = All (λ l. value_of t.entries l ≡ Some true) assumptions × ((v : ℕ) → 1 ≤ v → v ≤ t.vars → value_of t.entries (record { var = v; positive = false }) ≢ None)
+IsChosen assumptions t (Free l) = All (λ l. value_of t.entries l ≡ Some true) assumptions × IsFree t l
+IsChosen assumptions t Full = All (λ l. value_of t.entries l ≡ Some true) assumptions × IsFull t
 
 -- the value of each variable, false where it has none
 pub record HasValues (t : Trace) (values : List Bool) : Type 0 where

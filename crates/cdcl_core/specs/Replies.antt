@@ -5,7 +5,8 @@ use Rattle.clause_store.specs.declared.lit.Lit.{Lit}
 use Rattle.clause_store.specs.Truth.{lit_true, values_of, Satisfies}
 use Rattle.derivation_log.specs.declared.step.Step.{Step}
 use Rattle.derivation_log.specs.Logs.{Log, known_of, is_learned}
-use Rattle.solver_laws.specs.Ready.{IsLog, IsBarredBy}
+use Rattle.log_checker.specs.Refutes.{Refutes}
+use Rattle.solver_laws.specs.Ready.{IsLog}
 use Rattle.cdcl_core.specs.declared.reply.Reply.{Reply}
 use Rattle.cdcl_core.specs.declared.reply.Reply.TheVariants.{Found, Refuted, GaveUp}
 
@@ -25,9 +26,9 @@ pub record IsGrown (old new : Log) (count : ℕ) : Type 0 where
   pub vars : new.vars ≡ old.vars
   pub steps : (more : List Step) × (new.steps ≡ old.steps ++ more) × AllLearned more × (length more ≡ count)
 
--- a claimed step was appended whose literals are negations of the assumptions
+-- a claimed step was appended whose clause refutes the assumptions
 abbrev pub IsClaimed : Log → Log → List Lit → Type 0
-IsClaimed old new asked = (s : Step) × (is_learned s.kind ≡ false) × AllByRecursion (IsBarredBy asked) s.clause × (let l : Log = record old { steps = old.steps ++ s ∷ [] } in new ≡ l)
+IsClaimed old new asked = (s : Step) × (is_learned s.kind ≡ false) × Refutes s.clause asked × (let l : Log = record old { steps = old.steps ++ s ∷ [] } in new ≡ l)
 
 -- the clauses and the assumptions are true under these values of the variables
 pub record IsSolution (main : List (List Lit)) (vars : ℕ) (asked : List Lit) (values : List Bool) : Type 0 where
@@ -43,6 +44,12 @@ IsAnswered old new asked budget (Refuted number) =
     (count : ℕ) × (count < budget) × (mid : Log) × IsGrown old mid count × IsClaimed mid new asked × (number ≡ length (known_of mid))
 IsAnswered old new asked budget (GaveUp number) =
     IsGrown old new budget × (number ≡ length (known_of old))
+
+-- where the reply is a refutation, no assignment makes the clauses and the assumptions true
+abbrev pub IsJust : List (List Lit) → List Lit → Reply → Type 0
+IsJust main asked (Found values) = Unit {0}
+IsJust main asked (Refuted number) = (a : ℕ → Bool) → Satisfies a main → AllByRecursion (λ l. lit_true a l ≡ true) asked → ⊥
+IsJust main asked (GaveUp number) = Unit {0}
 
 -- the reply is an answer, and not that the budget was spent
 abbrev pub IsDecided : Reply → Type 0

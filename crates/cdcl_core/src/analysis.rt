@@ -52,14 +52,17 @@ fn count_at(lits: &[Lit], trail: &Trail) -> usize
     count
 }
 
-// The greatest level below the trail's level of the literals.
-pub fn back_level(lits: &[Lit], trail: &Trail) -> u32
+// The greatest level below the trail's level of the literals; 0 where the search starts over.
+pub fn back_level(lits: &[Lit], trail: &Trail, restart: bool) -> u32
     requires in_range { InRange trail.now.vars lits.now }
     requires is_false { AllByRecursion (IsFalseIn trail.now.entries) lits.now }
     requires level { 1 ≤ trail.now.level }
     ensures below { result < trail.now.level }
     ensures room { (k : ℕ) → k < result → room_of (upto (trail.now.level - 1) trail.now.entries) lits.now + 1 ≤ room_of (upto k trail.now.entries) lits.now }
 {
+    if restart {
+        return 0;
+    }
     let mut best = 0;
     for lit in lits {
         let level = level_at(trail, *lit);

@@ -1,10 +1,11 @@
 // What to decide next.
-ghost use Rattle.std.specs.Prelude.{◌≡◌, ◌+◌, ◌-◌, ◌<◌, ◌≤◌, ℕ, true, false, length, IfOk, Some, None, All};
+ghost use Rattle.std.specs.Prelude.{◌≡◌, ◌+◌, ◌-◌, ◌<◌, ◌≤◌, ℕ, true, false, length, IfOk, IfSome, IfNone, Some, None, All};
 ghost use Rattle.clause_store.specs.declared.lit.Lit.{Lit};
 ghost use Rattle.clause_store.specs.Lits.{InRange};
 ghost use Rattle.watch_lists.specs.Trace.{Trace, value_of};
-ghost use Rattle.cdcl_core.specs.Choices.{IsChosen, HasValues};
+ghost use Rattle.cdcl_core.specs.Choices.{IsChosen, IsFree, IsFull, HasValues};
 
+use crate::order::Order;
 use clause_store::{Assignment, Lit};
 use edge::NoMemory;
 use std::alloc::Global;
@@ -17,11 +18,11 @@ pub enum Choice {
     Full,
 }
 
-pub fn choose(assumptions: &[Lit], trail: &Trail) -> Choice
+// A decision that is due: assumptions first, and then the variables in their order.
+pub fn choose(assumptions: &[Lit], trail: &Trail, order: &mut Order) -> Choice
     requires { InRange trail.now.vars assumptions.now }
     ensures { IsChosen assumptions.now trail.now result }
 {
-    trail.facts();
     for lit in assumptions {
         match trail.value(*lit) {
             Some(true) => {}
@@ -29,16 +30,44 @@ pub fn choose(assumptions: &[Lit], trail: &Trail) -> Choice
             None => return Choice::Assume(*lit),
         }
     }
+    if let Some(lit) = next_free(trail, order) {
+        return Choice::Free(lit);
+    }
+    match first_free(trail) {
+        Some(lit) => Choice::Free(lit),
+        None => Choice::Full,
+    }
+}
+
+// The next literal in the order that has no value.
+fn next_free(trail: &Trail, order: &mut Order) -> Option<Lit>
+    ensures { IfSome result (IsFree trail.now) }
+{
+    for _ in 0..trail.vars() {
+        let lit = order.next()?;
+        if 1 <= lit.var && lit.var <= trail.vars() && trail.value(lit).is_none() {
+            return Some(lit);
+        }
+    }
+    None
+}
+
+// The literal of the first variable that has no value; `None` exactly where all have one.
+fn first_free(trail: &Trail) -> Option<Lit>
+    ensures some { IfSome result (IsFree trail.now) }
+    ensures none { IfNone result (IsFull trail.now) }
+{
+    trail.facts();
     for index in 0..trail.vars() {
         let lit = Lit {
             var: index + 1,
             positive: false,
         };
         if trail.value(lit).is_none() {
-            return Choice::Free(lit);
+            return Some(lit);
         }
     }
-    Choice::Full
+    None
 }
 
 // The values of the variables.

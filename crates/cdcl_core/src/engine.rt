@@ -12,6 +12,7 @@ ghost use Rattle.cdcl_core.specs.Replies.{IsClaimed};
 
 use crate::analysis::{Lesson, back_level, claim};
 use crate::choice::{Choice, choose};
+use crate::order::Order;
 use clause_store::Lit;
 use derivation_log::{Derivations, Step, StepKind};
 use edge::NoMemory;
@@ -40,7 +41,13 @@ pub fn settle<P: Propagator>(
 }
 
 // Goes back to a level.
-pub fn retreat<P: Propagator>(log: &Derivations, trail: &mut Trail, propagator: &mut P, level: u32)
+pub fn retreat<P: Propagator>(
+    log: &Derivations,
+    trail: &mut Trail,
+    propagator: &mut P,
+    order: &mut Order,
+    level: u32,
+)
     requires ready { IsReady log.now (P.attached propagator.old) (P.followed propagator.old) (P.vars propagator.old) trail.old }
     requires level { level ≤ trail.old.level }
     ensures ready { IsReady log.now (P.attached propagator.new) (P.followed propagator.new) (P.vars propagator.new) trail.new }
@@ -51,6 +58,7 @@ pub fn retreat<P: Propagator>(log: &Derivations, trail: &mut Trail, propagator: 
     let _ = log;
     trail.facts();
     if level < trail.level() {
+        order.take_back(trail, level);
         trail.back_to(level);
         propagator.undo(trail);
     }
@@ -79,7 +87,9 @@ pub fn keep<P: Propagator>(
     log: &mut Derivations,
     trail: &mut Trail,
     propagator: &mut P,
+    order: &mut Order,
     lesson: Lesson,
+    restart: bool,
 ) -> Result<u32, NoMemory>
     requires ready { IsReady log.old (P.attached propagator.old) (P.followed propagator.old) (P.vars propagator.old) trail.old }
     requires level { 1 ≤ trail.old.level }
@@ -94,8 +104,8 @@ pub fn keep<P: Propagator>(
     ensures vars { P.vars propagator.new ≡ P.vars propagator.old }
 {
     let _ = log.known().len();
-    let level = back_level(lesson.clause.lits(), trail);
-    retreat(log, trail, propagator, level);
+    let level = back_level(lesson.clause.lits(), trail, restart);
+    retreat(log, trail, propagator, order, level);
     let number = log.append(Step {
         kind: StepKind::Learned,
         clause: lesson.clause,
@@ -144,6 +154,7 @@ pub fn descend<P: Propagator>(
     log: &Derivations,
     trail: &mut Trail,
     propagator: &mut P,
+    order: &mut Order,
     assumptions: &[Lit],
     assumed: u32,
 ) -> (u32, Turn)
@@ -162,7 +173,7 @@ pub fn descend<P: Propagator>(
             return (assumed, Turn::Conflict(number));
         }
         trail.facts();
-        match choose(assumptions, trail) {
+        match choose(assumptions, trail, order) {
             Choice::Contrary(lit) => return (assumed, Turn::Contrary(lit)),
             Choice::Assume(lit) => {
                 open(log, trail, propagator, lit);

@@ -4,9 +4,12 @@
 mod analysis;
 mod choice;
 mod engine;
+mod order;
 mod reply;
 mod searching;
 mod solver;
+#[cfg(test)]
+mod tests;
 
 pub use reply::Reply;
 pub use solver::Solver;

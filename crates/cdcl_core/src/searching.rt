@@ -13,6 +13,7 @@ ghost use Rattle.cdcl_core.specs.Choices.{HasValues};
 use crate::analysis::learn;
 use crate::choice::values;
 use crate::engine::{Turn, descend, keep, refute, retreat};
+use crate::order::Order;
 use crate::reply::Reply;
 use clause_store::Lit;
 use derivation_log::Derivations;
@@ -55,6 +56,7 @@ pub fn search<P: Propagator>(
     log: &mut Derivations,
     trail: &mut Trail,
     propagator: &mut P,
+    order: &mut Order,
     assumptions: &[Lit],
     budget: u64,
 ) -> Result<Reply, NoMemory>
@@ -72,30 +74,31 @@ pub fn search<P: Propagator>(
     let begin = log.known().len();
     let mut assumed = 0;
     for turn in 0..budget {
-        let (opened, next) = descend(log, trail, propagator, assumptions, assumed);
+        let (opened, next) = descend(log, trail, propagator, order, assumptions, assumed);
         match next {
             Turn::Conflict(number) => {
                 if trail.level() <= opened {
                     let step = refute(alloc, log, trail, propagator, number, assumptions)?;
-                    retreat(log, trail, propagator, 0);
+                    retreat(log, trail, propagator, order, 0);
                     return Ok(Reply::Refuted(step));
                 }
                 let lesson = learn(alloc, log.known(), trail, propagator, number)?;
-                let level = keep(log, trail, propagator, lesson)?;
+                let restart = order.learn(lesson.clause.lits(), lesson.chain.as_slice());
+                let level = keep(log, trail, propagator, order, lesson, restart)?;
                 assumed = opened.min(level);
             }
             Turn::Contrary(lit) => {
                 let step = refute_contrary(alloc, log, trail, propagator, lit, assumptions)?;
-                retreat(log, trail, propagator, 0);
+                retreat(log, trail, propagator, order, 0);
                 return Ok(Reply::Refuted(step));
             }
             Turn::Full => {
                 let found = values(alloc, trail)?;
-                retreat(log, trail, propagator, 0);
+                retreat(log, trail, propagator, order, 0);
                 return Ok(Reply::Found(found));
             }
         }
     }
-    retreat(log, trail, propagator, 0);
+    retreat(log, trail, propagator, order, 0);
     Ok(Reply::GaveUp(begin))
 }

@@ -5,9 +5,10 @@ ghost use Rattle.clause_store.specs.Lits.{InRange};
 ghost use Rattle.derivation_log.specs.Logs.{Log, known_of, learned_of, IsSound, IsNew};
 ghost use Rattle.watch_lists.specs.Trace.{Trace, StandIn, Attached};
 ghost use Rattle.solver_laws.specs.Ready.{IsLog, AllFit};
-ghost use Rattle.cdcl_core.specs.Replies.{IsAnswered, IsLonger, IsDecided};
+ghost use Rattle.cdcl_core.specs.Replies.{IsAnswered, IsJust, IsLonger, IsDecided};
 ghost use Rattle.cdcl_core.specs.State.{State};
 
+use crate::order::Order;
 use crate::reply::Reply;
 use crate::searching::search;
 use clause_store::{ClauseList, Lit};
@@ -23,6 +24,7 @@ pub struct Solver<P: Propagator + Drop> {
     log: Derivations,
     trail: Trail,
     propagator: P,
+    order: Order,
     failed: bool,
     alloc: Global,
 }
@@ -46,12 +48,14 @@ impl<P: Propagator + Drop> Solver<P> {
         let vars = main.vars();
         let trail = Trail::new(alloc, vars)?;
         let mut propagator = P::new(alloc, vars)?;
+        let order = Order::new(alloc, vars)?;
         let log = Derivations::new(alloc, main);
         attach_all(&log, &trail, &mut propagator)?;
         Ok(Solver {
             log,
             trail,
             propagator,
+            order,
             failed: false,
             alloc,
         })
@@ -74,6 +78,7 @@ impl<P: Propagator + Drop> Solver<P> {
             log,
             trail: _,
             propagator: _,
+            order: _,
             failed: _,
             alloc: _,
         } = self;
@@ -100,6 +105,7 @@ impl<P: Propagator + Drop> Solver<P> {
         ensures few { length (learned_of self.new.log.steps) < 3 ^ self.new.log.vars }
 
         ensures answered { IfOk result (λ reply. IsAnswered self.old.log self.new.log assumptions.now budget reply) }
+        ensures refuted { IfOk result (IsJust self.old.log.main assumptions.now) }
         ensures enough { 3 ^ self.old.log.vars ≤ budget → IfOk result IsDecided }
 
         ensures ok { OnOk result (self.new.failed ≡ false) }
@@ -115,6 +121,7 @@ impl<P: Propagator + Drop> Solver<P> {
             &mut self.log,
             &mut self.trail,
             &mut self.propagator,
+            &mut self.order,
             assumptions,
             budget,
         )?;

@@ -13,14 +13,3 @@ loop-lit-preserved c =
     let v : value_of c.args.trail.now.entries x ≡ Some true = (let k = c.in-Some-true.ensures in let m = c.in-Some-true.field-0-test in search rules) in
     subst (λ (zs : List Lit). All (λ (l : Lit). value_of c.args.trail.now.entries l ≡ Some true) zs) (sym (take_more c.args.assumptions.now c.loop-lit.lit-index no_lit c.loop-lit-test.true))
     (All-push (λ (l : Lit). value_of c.args.trail.now.entries l ≡ Some true) (take c.loop-lit.lit-index c.args.assumptions.now) x c.loop-lit.invariant v)
-
-pub returns : goal.returns
-returns c =
-    let e = take_all c.loop-lit.lit-index c.args.assumptions.now c.loop-lit-test.false in
-    (subst (λ (zs : List Lit). All (λ (l : Lit). value_of c.args.trail.now.entries l ≡ Some true) zs) e c.loop-lit.invariant, λ v a b h. c.loop-index.invariant v a (omega (arith, c.loop-index-test.false, c.vars-index-end.ensures)) h)
-
-pub returns-then-is_none : goal.returns-then-is_none
-returns-then-is_none c =
-    let e = take_all c.loop-lit.lit-index c.args.assumptions.now c.loop-lit-test.false in
-    let n : value_of c.args.trail.now.entries (record { var = c.loop-index.index + 1; positive = false }) ≡ None = search rules in
-    (subst (λ (zs : List Lit). All (λ (l : Lit). value_of c.args.trail.now.entries l ≡ Some true) zs) e c.loop-lit.invariant, omega arith, omega (arith, c.loop-index-test.true, c.vars-index-end.ensures), n)

@@ -6,6 +6,3 @@ use Rattle.cdcl_core.proofs.choice.choose.Given as goal
 
 abbrev pub invariant-loop-lit : goal.invariant-loop-lit
 invariant-loop-lit l = All (λ (x : Lit). value_of l.trail.entries x ≡ Some true) (take l.lit-index l.assumptions)
-
-abbrev pub invariant-loop-index : goal.invariant-loop-index
-invariant-loop-index l = (v : ℕ) → 1 ≤ v → v ≤ l.index → value_of l.trail.entries (record { var = v; positive = false }) ≢ None

@@ -2,14 +2,17 @@ use Rattle.std.proofs.Common.{◌≡◌, ap, subst}
 use Rattle.derivation_log.specs.Logs.{Log, is_learned}
 use Rattle.cdcl_core.specs.Replies.{IsAnswered}
 use Rattle.std.proofs.Common.{ℕ, ◌≤◌, ◌+◌, ◌<◌, List, [], ◌∷◌, ◌++◌, length, true, false, refl, arith, suc, inl, inr, sym, ◌∙◌, ◌≢◌, cond}
-use Rattle.std.specs.Prelude.{◌^◌}
+use Rattle.std.specs.Prelude.{◌^◌, Contains}
 use Rattle.std.proofs.lemmas.Bool.{cases_Bool}
 use Rattle.clause_store.specs.declared.lit.Lit.{Lit}
-use Rattle.derivation_log.specs.Logs.{learned_of, is_learned}
+use Rattle.derivation_log.specs.Logs.{learned_of, is_learned, clauses_of, IsSound}
+use Rattle.derivation_log.proofs.Steps.{clauses_push}
+use Rattle.clause_store.specs.Truth.{Satisfies}
+use Rattle.log_checker.proofs.Sound.{log_refutes}
 use Rattle.derivation_log.specs.declared.step.Step.{Step}
 use Rattle.solver_laws.specs.Ready.{IsLog}
 use Rattle.solver_laws.proofs.Few.{few_learned, apart}
-use Rattle.cdcl_core.specs.Replies.{IsGrown, IsLonger, AllLearned, IsDecided}
+use Rattle.cdcl_core.specs.Replies.{IsGrown, IsLonger, AllLearned, IsDecided, IsJust}
 use Rattle.cdcl_core.specs.declared.reply.Reply.{Reply}
 use Rattle.cdcl_core.specs.declared.reply.Reply.TheVariants.{Found, Refuted, GaveUp}
 use Rattle.cdcl_core.specs.State.{State}
@@ -61,3 +64,22 @@ returns-clause-distinct g c = apart c.search.new.log.main c.search.new.log.steps
 
 pub returns-clause-few : goal.returns-clause-few
 returns-clause-few g c = few_learned c.search.new.log c.search.ensures.log
+
+contains_last : (cs : List (List Lit)) (c : List Lit) → Contains (cs ++ c ∷ []) c
+contains_last [] c = (0, omega arith, refl)
+contains_last (x ∷ xs) c = let r = contains_last xs c in (suc r.0, omega (arith, r.1), r.2)
+
+just : (old new : Log) (asked : List Lit) (budget : ℕ) (r : Reply) → IsSound new.main new.steps → IsAnswered old new asked budget r → IsJust old.main asked r
+just old new asked budget (Found values) l a = tt
+just old new asked budget (GaveUp n) l a = tt
+just old new asked budget (Refuted n) l a = λ v s t. (
+    let grown = a.3 in
+    let claimed = a.4 in
+    let mid : Log = a.2 in
+    let main : new.main ≡ old.main = ap (λ (x : Log). x.main) claimed.3 ∙ grown.main in
+    let last : clauses_of new.steps ≡ clauses_of mid.steps ++ claimed.0.clause ∷ [] = ap (λ (x : Log). clauses_of x.steps) claimed.3 ∙ clauses_push mid.steps claimed.0 in
+    let within : Contains (clauses_of new.steps) claimed.0.clause = subst (λ (cs : List (List Lit)). Contains cs claimed.0.clause) (sym last) (contains_last (clauses_of mid.steps) claimed.0.clause) in
+    log_refutes v new.main new.steps claimed.0.clause asked (subst (Satisfies v) (sym main) s) l within claimed.2 t)
+
+pub returns-clause-refuted : goal.returns-clause-refuted
+returns-clause-refuted g c = just c.args.self.now.log c.search.new.log c.args.assumptions.now c.args.budget c.in_ok-reply.reply c.search.ensures.log.sound (returns-clause-answered g c)
