@@ -1,2 +1,4 @@
 pub mod NameLists
 pub mod Fitted
+pub mod Keeping
+pub mod Progress

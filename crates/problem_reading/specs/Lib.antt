@@ -5,3 +5,4 @@ pub mod Saying
 pub mod Stops
 pub mod Views
 pub mod Fitting
+pub mod Spelling

@@ -1,6 +1,7 @@
 // Reading a problem text line by line, with the least fault of each line.
 #![tactic(auto)]
 
+mod ending;
 mod formula;
 mod judging;
 mod lines;
@@ -8,8 +9,12 @@ mod names;
 mod reading;
 mod said;
 mod stop;
+#[cfg(test)]
+mod tests;
+mod text;
 
 pub use judging::judge;
 pub use reading::Reading;
 pub use said::Said;
 pub use stop::{LineStop, TextFault, TextKind, TextStop};
+pub use text::read_problem;

@@ -1,5 +1,5 @@
 ghost use Rattle.std.specs.Prelude.{◌≡◌, [], None};
-ghost use Rattle.problem_reading.specs.Kept.{IsCounted};
+ghost use Rattle.problem_reading.specs.Kept.{IsKept};
 
 use crate::said::Said;
 use edge::NoMemory;
@@ -28,16 +28,20 @@ pub struct Reading {
     pub times: u32,
     /// The number of lines.
     pub lines: u64,
-    pub ghost counted: { IsCounted constraint agents.items asks.items constraint_nodes other_nodes times },
+    pub ghost kept: { IsKept atoms constraint agents.items asks.items constraint_nodes other_nodes times },
 }
 
 impl Reading {
+    ghost use Rattle.problem_reading.specs.Drafts.{empty_draft};
+    ghost use Rattle.problem_reading.specs.Views.{draft_of};
+
     /// A reading of no lines.
     pub fn new(alloc: Global) -> Reading
         ensures atoms { result.atoms ≡ [] }
         ensures constraint { result.constraint ≡ None }
         ensures agents { result.agents.items ≡ [] }
         ensures asks { result.asks.items ≡ [] }
+        ensures empty { draft_of result ≡ empty_draft }
         ensures lines { result.lines ≡ 0 }
     {
         Reading {

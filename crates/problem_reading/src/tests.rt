@@ -1,0 +1,69 @@
+use crate::{TextFault, TextKind, TextStop, read_problem};
+use std::test::Fail;
+
+#[test]
+fn the_first_fault_is_named(rt: HostRuntime) -> Result<(), Fail> {
+    let alloc = rt.alloc();
+    let rows: [(&[u8], u64, TextKind); 20] = [
+        (
+            b"atoms a\nagent p : a\nask c\nask a * a\n",
+            3,
+            TextKind::UnknownAtom,
+        ),
+        (b"", 0, TextKind::NoAtoms),
+        (b"atoms a", 0, TextKind::NoAgent),
+        (b"atoms a\nagent p times 33 : a\n", 2, TextKind::TooMany),
+        (
+            b"atoms a\nagent p times 32 : a\nagent q : a",
+            3,
+            TextKind::TooMany,
+        ),
+        (b"atoms a a", 1, TextKind::Twice),
+        (b"atoms a\natoms b a", 2, TextKind::Twice),
+        (b"atoms a a true", 1, TextKind::Reserved),
+        (b"atoms a\nagent p a", 2, TextKind::BadLine),
+        (b"atoms a\n\n  # a comment\nask a &", 4, TextKind::BadForm),
+        (b"atoms a\nask a < - > a", 2, TextKind::BadForm),
+        (b"atoms a\nask a * a", 2, TextKind::BadByte),
+        (b"atoms a\nagent true : a", 2, TextKind::Reserved),
+        (b"atoms a\nagent p : a\nagent p : !a", 3, TextKind::Twice),
+        (b"atoms a\nconstraint a\nconstraint a", 3, TextKind::Twice),
+        (b"ask a\natoms a", 1, TextKind::UnknownAtom),
+        (b"atoms", 1, TextKind::BadLine),
+        (b"atoms a\nagent p times 01 : a", 2, TextKind::BadLine),
+        (
+            b"atoms a\nagent p times 99999999999999999999 : a",
+            2,
+            TextKind::TooMany,
+        ),
+        (b"atoms 1a", 1, TextKind::BadLine),
+    ];
+    for (text, line, kind) in rows {
+        let stop = read_problem(alloc, text).err();
+        assert_eq!(rt; stop, Some(TextStop::Fault(TextFault { line, kind })));
+    }
+    Ok(())
+}
+
+#[test]
+fn a_problem_is_read(rt: HostRuntime) -> Result<(), Fail> {
+    let alloc = rt.alloc();
+    let text =
+        b"agent p times 3 : true # early\r\natoms a b\nask (b)\nagent q : b\natoms c\nconstraint c";
+    match read_problem(alloc, text) {
+        Err(_) => assert!(rt; false),
+        Ok(problem) => {
+            let agents = problem.agents.as_slice();
+            let shown = format!(in alloc;
+                "{agents:?} {:?} {:?}",
+                problem.constraint,
+                problem.asks.as_slice()
+            )?;
+            let want =
+                "[Agent { name: Sequence { items: [112] }, times: 3, base: Top }, Agent { name: Sequence { items: [113] }, times: 1, base: Atom(1) }] Atom(2) [Atom(1)]";
+            assert_eq!(rt; shown.as_str(), want);
+            assert_eq!(rt; problem.atoms.number_of("c"), Some(2));
+        }
+    }
+    Ok(())
+}
