@@ -1,1 +1,5 @@
 pub mod LevelValues
+pub mod Levels
+pub mod LeximaxLevels
+pub mod MaxLevel
+pub mod SumLevel

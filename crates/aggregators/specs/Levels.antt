@@ -1,0 +1,80 @@
+-- The levels of an aggregator: counters whose values are the level values of the repeated distances.
+use Rattle.std.specs.Prelude.{◌≡◌, ℕ, zero, suc, ◌+◌, ◌≤◌, ◌^◌, Bool, List, [], ◌∷◌, ◌++◌, length, map, replicate, sum, All, slice_index}
+use Rattle.clause_store.specs.declared.lit.Lit.{Lit}
+use Rattle.clause_store.specs.Extends.{Extends, Are}
+use Rattle.totalizer.specs.Counter.{Due, count_of, AllUnary, AllVarsWithin, leaves}
+use Rattle.totalizer.specs.Either.{either_due}
+use Rattle.totalizer.specs.Joined.{joined}
+use Rattle.totalizer.specs.Plus.{fresh_outputs}
+use Rattle.totalizer.specs.Total.{total_due}
+use Rattle.merge_model.specs.Merging.{repeated}
+
+-- what is due: clauses as they are made, the number of variables then, and the levels
+pub record LevelsDue : Type 0 where
+  pub clauses : List (List Lit)
+  pub vars : ℕ
+  pub levels : List (List ℕ)
+
+-- each counter as often as its number of times says, in order
+abbrev pub repeats : List ℕ → List (List ℕ) → List (List ℕ)
+repeats [] cs = []
+repeats (t ∷ times) [] = []
+repeats (t ∷ times) (c ∷ cs) = replicate t c ++ repeats times cs
+
+-- the values of counters
+abbrev pub counts_of : (ℕ → Bool) → List (List ℕ) → List ℕ
+counts_of b cs = map (count_of b) cs
+
+-- the length of the first counter
+abbrev pub top_of : List (List ℕ) → ℕ
+top_of [] = 0
+top_of (c ∷ cs) = length c
+
+-- output k, from 0, of each counter
+abbrev pub column : ℕ → List (List ℕ) → List ℕ
+column k cs = map (λ c. slice_index c k) cs
+
+-- of the sum: one level, the total of the repeated counters
+abbrev pub sum_due : ℕ → List (List ℕ) → List ℕ → LevelsDue
+sum_due v aways times =
+    let total = total_due v (repeats times aways) in
+    record { clauses = total.clauses; vars = total.vars; levels = total.outputs ∷ [] }
+
+-- of the maximum: one level, whose outputs are each either of the counters' outputs of that number
+abbrev pub max_due : ℕ → List (List ℕ) → List ℕ → LevelsDue
+max_due v aways times = record {
+  clauses = joined (λ k. (either_due (v + k) (column k aways)).clauses) (top_of aways);
+  vars = v + top_of aways;
+  levels = fresh_outputs v (top_of aways) ∷ [];
+}
+
+-- of the k lowest outputs, from the highest down, the total of the parts' outputs of that number
+abbrev pub totals_due : ℕ → ℕ → List (List ℕ) → LevelsDue
+totals_due zero v parts = record { clauses = []; vars = v; levels = [] }
+totals_due (suc k) v parts =
+    let first = total_due v (leaves (column k parts)) in
+    let rest = totals_due k first.vars parts in
+    record { clauses = first.clauses ++ rest.clauses; vars = rest.vars; levels = first.outputs ∷ rest.levels }
+
+-- of leximax: a level for each output number, from the highest down
+abbrev pub leximax_due : ℕ → List (List ℕ) → List ℕ → LevelsDue
+leximax_due v aways times = totals_due (top_of aways) v (repeats times aways)
+
+-- counters and times that have levels, after v variables
+pub record HaveLevels (v : ℕ) (aways : List (List ℕ)) (times : List ℕ) : Type 0 where
+  pub lengths : length aways ≡ length times
+  pub some : 1 ≤ length aways
+  pub positive : All (λ t. 1 ≤ t) times
+  pub few : sum times ≤ 64
+  pub sized : All (λ c. length c ≡ top_of aways) aways
+  pub small : top_of aways ≤ 4096
+  pub within : AllVarsWithin v aways
+
+-- where the counters count, the clauses hold in exactly one extension, and there the levels count the level values of
+-- the repeated distances
+pub record AreLevels (v : ℕ) (aways : List (List ℕ)) (times : List ℕ) (values_of : List ℕ → ℕ → List ℕ) (d : LevelsDue) : Type 0 where
+  pub extends : Extends (λ b. AllUnary b aways) (Are d.clauses) v d.vars
+  pub few : d.vars ≤ v + 2 ^ 24
+  pub within : AllVarsWithin d.vars d.levels
+  pub in_order : (b : ℕ → Bool) → AllUnary b aways → Are d.clauses b → AllUnary b d.levels
+  pub values : (b : ℕ → Bool) → AllUnary b aways → Are d.clauses b → counts_of b d.levels ≡ values_of (repeated times (counts_of b aways)) (top_of aways)
