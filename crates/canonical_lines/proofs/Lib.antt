@@ -1,1 +1,2 @@
+pub mod LineBytes
 pub mod LineForms

@@ -20,7 +20,7 @@ name_word : (name : List ℕ) → is_plain_name name ≡ true → IsWord name
 name_word [] h = absurd (grind arith)
 name_word (b ∷ name) h = record { some = λ e. absurd (grind (arith, e)); all = (let all : list_all is_word_byte (b ∷ name) ≡ true = grind arith in all) }
 
-plain : (name : List ℕ) → is_name name ≡ true → is_plain_name name ≡ true
+pub plain : (name : List ℕ) → is_name name ≡ true → is_plain_name name ≡ true
 plain name h = grind arith
 
 -- a word, a blank and more
@@ -73,10 +73,10 @@ pub ask_form_of : (text : List ℕ) → form_of (lexemes_of (codes "ask " ++ tex
 ask_form_of text = ap form_of (word_blank (codes "ask") text (head_word 97 (codes "sk") refl))
 
 -- the numerals from 1 to 32 are read as their numbers
-abbrev reads_well : ℕ → Bool
+abbrev pub reads_well : ℕ → Bool
 reads_well n = is_numeral (decimal n) && value_after 0 (decimal n) == n && list_all is_word_byte (decimal n)
 
-abbrev all_read_well : ℕ → Bool
+abbrev pub all_read_well : ℕ → Bool
 all_read_well zero = true
 all_read_well (suc n) = all_read_well n && reads_well (suc n)
 
@@ -87,7 +87,7 @@ below_or_at n m few =
       | false ↦ λ e. inl (let low : n ≤ m = grind (arith, nat_tests) in low)
     ] refl
 
-well_at : (m n : ℕ) → all_read_well m ≡ true → 1 ≤ n → n ≤ m → reads_well n ≡ true
+pub well_at : (m n : ℕ) → all_read_well m ≡ true → 1 ≤ n → n ≤ m → reads_well n ≡ true
 well_at zero n h some few = absurd (omega arith)
 well_at (suc m) n h some few =
     ⊎_elim
@@ -95,7 +95,7 @@ well_at (suc m) n h some few =
     (λ high. ap reads_well high ∙ (let last : reads_well (suc m) ≡ true = grind arith in last))
     (below_or_at n m few)
 
-up_to_32 : all_read_well 32 ≡ true
+pub up_to_32 : all_read_well 32 ≡ true
 unfolding digits
 up_to_32 = refl
 
