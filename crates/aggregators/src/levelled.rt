@@ -1,6 +1,7 @@
 ghost use Rattle.std.specs.Prelude.{◌≡◌, ℕ, ◌≤◌, List, length, All, IfOk};
 ghost use Rattle.std.specs.Cmp.Lexicographic.{slice_cmp};
 ghost use Rattle.std.specs.Ordering.{nat_cmp};
+ghost use Rattle.aggregators.specs.Levels.{LevelsDue, HaveLevels, AreLevels};
 
 use edge::NoMemory;
 use merge_model::Aggregator;
@@ -8,11 +9,17 @@ use std::alloc::Global;
 
 /// An aggregator whose order is that of level values.
 ///
-/// Its meaning is `levels_of`: the level values of a list of distances that are each at most a
-/// greatest one. The law, below the method: for lists of one length, the lexicographic order of the
-/// level values is that of the ranks.
+/// Its meanings are `levels_of`, the level values of a list of distances that are each at most a
+/// greatest one, and `levels_due`: the clauses, the number of variables and the counters that are
+/// due for the levels, after so many variables, of counters of distances that each count so often.
+///
+/// The laws, below the method. `in_order`: for lists of one length, the lexicographic order of the
+/// level values is that of the ranks. `are_levels`: where the given counters count, the clauses that
+/// are due hold in exactly one extension, and there the levels count the level values.
 pub trait Levelled: Aggregator {
     ghost levels_of: { Self → List ℕ → ℕ → List ℕ };
+
+    ghost levels_due: { Self → ℕ → List (List ℕ) → List ℕ → LevelsDue };
 
     /// The level values of a list of 1 to 64 distances of at most `top`, which is at most 4,096;
     /// `NoMemory` for want of it.
@@ -25,4 +32,6 @@ pub trait Levelled: Aggregator {
 
     ghost in_order: { (a : Self) (top : ℕ) (u w : List ℕ) → All (λ k. k ≤ top) u → All (λ k. k ≤ top) w → length u ≡ length w →
         slice_cmp nat_cmp (levels_of a u top) (levels_of a w top) ≡ slice_cmp nat_cmp (Self.rank a u) (Self.rank a w) };
+
+    ghost are_levels: { (a : Self) (v : ℕ) (aways : List (List ℕ)) (times : List ℕ) → HaveLevels v aways times → AreLevels v aways times (levels_of a) (levels_due a v aways times) };
 }

@@ -7,3 +7,6 @@ mod sorted;
 mod summed;
 
 pub use levelled::Levelled;
+
+#[cfg(test)]
+mod tests;
