@@ -2,5 +2,6 @@ pub mod Laws
 pub mod Problems
 pub mod Replies
 pub mod ReportTexts
+pub mod SameProblems
 pub mod Told
 pub mod WordLists

@@ -18,19 +18,12 @@ aggregator_word Leximax = codes "leximax"
 
 -- how a command is written
 abbrev pub words_of_form : Form → List (List ℕ)
-words_of_form (Merge distance aggregator) = codes "merge" ∷ distance_word distance ∷ aggregator_word aggregator ∷ []
-
--- the program answers this command
-abbrev pub IsBuilt : Form → Type 0
-IsBuilt (Merge Hamming Sum) = Unit {0}
-IsBuilt (Merge Hamming Max) = ⊥
-IsBuilt (Merge Hamming Leximax) = ⊥
-IsBuilt (Merge Drastic aggregator) = ⊥
+words_of_form (Merge distance aggregator) =
+    codes "merge" ∷ distance_word distance ∷ aggregator_word aggregator ∷ []
 
 -- the words are those of this command
-pub record IsFormOf (words : List (List ℕ)) (form : Form) : Type 0 where
-  pub built : IsBuilt form
-  pub spelled : words ≡ words_of_form form
+abbrev pub IsFormOf : List (List ℕ) → Form → Type 0
+IsFormOf words form = words ≡ words_of_form form
 
 -- the words are those of no command
 abbrev pub IsNoForm : List (List ℕ) → Type 0

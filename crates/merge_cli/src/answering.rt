@@ -1,17 +1,23 @@
 ghost use Rattle.std.specs.Prelude.{◌≡◌, ◌≤◌, ◌++◌, length, IfOk, OnOk, OnErr};
 ghost use Rattle.merge_cli.specs.Merge.{ProblemAnswers, TextAnswers, status_of};
+ghost use Rattle.merge_cli.specs.Refusals.{SaysFault, SaysStop};
 ghost use Rattle.merge_cli.specs.ReportLines.{report_text};
 
-use crate::reply::{Reply, Stop, says};
+use crate::refusal::refusal;
+use crate::reply::{Reply, says};
 use crate::report::{put_answer, put_head};
-use crate::status::{ANSWERED, GAVE_UP, LACKS_MODEL, NOT_BUILT};
+use crate::status::{ANSWERED, GAVE_UP, LACKS_MODEL, NOT_BUILT, REFUSED};
 use edge::NoMemory;
 use merge_model::{AggregatorName, Answer, DistanceName, Problem, merge_named};
-use profile_text::{read_canonical, write_problem};
+use problem_reading::{TextFault, TextStop, read_problem};
+use profile_text::write_problem;
 use std::alloc::Global;
 
 /// The number of conflicts that a report names where no word gives one.
 const USUAL_CONFLICTS: u64 = 100_000;
+
+/// How many atoms a problem that is answered may have.
+const MOST_ATOMS: u32 = 8;
 
 fn report_of(
     alloc: Global,
@@ -83,6 +89,25 @@ fn problem_reply(
     Ok(Reply { status, text })
 }
 
+fn fault_reply(alloc: Global, fault: TextFault) -> Result<Reply, NoMemory>
+    ensures { IfOk result (λ reply. SaysFault fault reply.status reply.text.items) }
+{
+    let text = refusal(alloc, fault)?;
+    Ok(Reply {
+        status: REFUSED,
+        text,
+    })
+}
+
+fn stop_reply(alloc: Global, stop: TextStop) -> Result<Reply, NoMemory>
+    ensures { IfOk result (λ reply. SaysStop stop reply.status reply.text.items) }
+{
+    match stop {
+        TextStop::Fault(fault) => fault_reply(alloc, fault),
+        TextStop::NoMemory => Err(NoMemory),
+    }
+}
+
 /// The reply to a text that is not too long.
 pub fn text_reply(
     alloc: Global,
@@ -92,8 +117,13 @@ pub fn text_reply(
 ) -> Result<Reply, NoMemory>
     ensures { IfOk result (λ reply. TextAnswers distance aggregator bytes.now reply.status reply.text.items) }
 {
-    match read_canonical(alloc, bytes)? {
-        Some(problem) => problem_reply(alloc, distance, aggregator, &problem),
-        None => says(alloc, NOT_BUILT, b"refused: not built\n"),
+    match read_problem(alloc, bytes) {
+        Ok(problem) => {
+            if problem.atoms.len() > MOST_ATOMS {
+                return says(alloc, NOT_BUILT, b"refused: not built\n");
+            }
+            problem_reply(alloc, distance, aggregator, &problem)
+        }
+        Err(stop) => stop_reply(alloc, stop),
     }
 }

@@ -1,4 +1,4 @@
-ghost use Rattle.std.specs.Prelude.{◌≡◌, IfSome, IfNone};
+ghost use Rattle.std.specs.Prelude.{◌≡◌, ◌≢◌, IfSome, IfNone};
 
 use edge::Words;
 use merge_model::{AggregatorName, DistanceName};
@@ -10,9 +10,32 @@ pub enum Form {
     Merge(DistanceName, AggregatorName),
 }
 
-ghost use Rattle.merge_cli.specs.Forms.{IsFormOf, IsNoForm};
+ghost use Rattle.merge_cli.specs.Forms.{distance_word, aggregator_word, IsFormOf, IsNoForm};
 
-/// The form that the words spell, of those that are built: `merge hamming sum`.
+fn distance_of(word: &str) -> Option<DistanceName>
+    ensures some { IfSome result (λ name. word.now ≡ distance_word name) }
+    ensures none { IfNone result ((name : _) → word.now ≢ distance_word name) }
+{
+    match word {
+        "drastic" => Some(DistanceName::Drastic),
+        "hamming" => Some(DistanceName::Hamming),
+        _ => None,
+    }
+}
+
+fn aggregator_of(word: &str) -> Option<AggregatorName>
+    ensures some { IfSome result (λ name. word.now ≡ aggregator_word name) }
+    ensures none { IfNone result ((name : _) → word.now ≢ aggregator_word name) }
+{
+    match word {
+        "sum" => Some(AggregatorName::Sum),
+        "max" => Some(AggregatorName::Max),
+        "leximax" => Some(AggregatorName::Leximax),
+        _ => None,
+    }
+}
+
+/// The form that the words spell, of those that are built.
 pub fn form_of(words: &Words) -> Option<Form>
     ensures some { IfSome result (IsFormOf words.now) }
     ensures none { IfNone result (IsNoForm words.now) }
@@ -21,9 +44,10 @@ pub fn form_of(words: &Words) -> Option<Form>
         return None;
     }
     match words.get(0) {
-        "merge" if words.len() == 3 && words.get(1) == "hamming" && words.get(2) == "sum" => {
-            Some(Form::Merge(DistanceName::Hamming, AggregatorName::Sum))
-        }
+        "merge" if words.len() == 3 => Some(Form::Merge(
+            distance_of(words.get(1))?,
+            aggregator_of(words.get(2))?,
+        )),
         _ => None,
     }
 }

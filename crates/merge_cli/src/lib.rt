@@ -5,6 +5,7 @@ mod answering;
 mod exact;
 mod forms;
 mod merging;
+mod refusal;
 mod reply;
 mod report;
 pub mod status;

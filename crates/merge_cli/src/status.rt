@@ -24,5 +24,5 @@ pub const NO_MEMORY: u8 = 6;
 /// The constraint or a base has no model.
 pub const LACKS_MODEL: u8 = 8;
 
-/// The text is none of those that are answered so far.
+/// The text is that of a problem that is not answered so far.
 pub const NOT_BUILT: u8 = 9;

@@ -8,7 +8,7 @@ const TEXT: &str = "atoms a\nconstraint !a\nagent p : a\nask !a\n";
 const REPORT: &str =
     "merge-report 1\ndistance hamming\naggregator sum\nconflicts 100000\natoms a\nconstraint !a\nagent p : a\nask !a\nmodel 0\nvector 1\nnearest 1\nmeasure 1\nverdict 1 yes\n";
 
-const NO_ASK: &str = "atoms a\nconstraint !a\nagent p : a\n";
+const NINE_ATOMS: &str = "atoms a b c d e f g h i\nagent p : a\n";
 
 fn words_of(alloc: Global, text: &str) -> Result<Words, Fail> {
     let mut words = Words::new(alloc);
@@ -23,7 +23,20 @@ fn answers_with_ample_memory(rt: HostRuntime) -> Result<(), Fail> {
     let alloc = rt.alloc();
     let rows = [
         ("merge hamming sum", TEXT, 0, REPORT),
-        ("merge hamming sum", NO_ASK, 9, "refused: not built\n"),
+        ("merge drastic max", NINE_ATOMS, 9, "refused: not built\n"),
+        ("merge hamming sum", "", 1, "refused line 0: no-atoms\n"),
+        (
+            "merge hamming sum",
+            "atoms a",
+            1,
+            "refused line 0: no-agent\n",
+        ),
+        (
+            "merge hamming sum",
+            "atoms a\nagent p : a\nask c\nask a * a",
+            1,
+            "refused line 3: unknown-atom\n",
+        ),
         ("merge hamming", TEXT, 2, "refused words\n"),
         ("list hamming sum 0", TEXT, 2, "refused words\n"),
         ("bench 01", "", 2, "refused words\n"),

@@ -3,7 +3,11 @@ ghost use Rattle.std.specs.Io.KnownBytes.{Appends, IsAtEnd};
 ghost use Rattle.edge.specs.Faults.{Rose};
 ghost use Rattle.merge_cli.specs.Forms.{IsFormOf, IsNoForm};
 ghost use Rattle.merge_cli.specs.Answers.{Answers, Answered, CommandAnswers, Reads, IsReading, IsUnread, IsProblemCommand};
-ghost use Rattle.merge_cli.specs.Merge.{most_bytes, IsNotBuilt, ReportsMerge, ReportsLack};
+ghost use Rattle.merge_cli.specs.Merge.{most_bytes, most_atoms, IsNotBuilt, ReportsMerge, ReportsLack};
+ghost use Rattle.merge_cli.specs.Refusals.{refusal_text};
+ghost use Rattle.merge_model.specs.declared.problem.Problem.{Problem};
+ghost use Rattle.problem_reading.specs.declared.stop.TextFault.{TextFault};
+ghost use Rattle.problem_reading.specs.Spelling.{Spelled, FirstFault};
 ghost use Rattle.merge_model.specs.declared.operator.DistanceName.{DistanceName};
 ghost use Rattle.merge_model.specs.declared.operator.AggregatorName.{AggregatorName};
 
@@ -57,8 +61,8 @@ fn reply<S: Source>(alloc: Global, words: &Words, source: &mut S) -> Result<Repl
 ///
 /// - 2: the words are none of the forms; nothing is read.
 /// - 4: a read failed; there is no text and the sink is not called.
-/// - 1: the text is refused: it has more than 262,144 bytes.
-/// - 9: the text is none of those that are answered so far.
+/// - 1: the text is refused: it has more than 262,144 bytes, or its first fault is named.
+/// - 9: the text is that of a problem with more than 8 atoms, which is not answered so far.
 /// - 8: the constraint or a base has no model; the text is the report that says which.
 /// - 0: the text is the report on the merged problem.
 /// - 5: a write failed; the sink took the first `sent` bytes of the text.
@@ -86,14 +90,30 @@ pub fn run<S: Source, K: Sink>(
     // Where the source tells its bytes, the answer is that to these bytes.
     ensures merged { (bytes : List ℕ) (distance : DistanceName) (aggregator : AggregatorName)
         → S.left source.old ≡ Some bytes → IsFormOf words.now (Form.Merge distance aggregator)
-        → result.status ≡ 0 → ReportsMerge distance aggregator bytes result.text.items }
+        → (problem : Problem) → Spelled bytes problem → result.status ≡ 0
+        → ReportsMerge distance aggregator problem result.text.items }
     ensures lacks_model { (bytes : List ℕ) (distance : DistanceName) (aggregator : AggregatorName)
         → S.left source.old ≡ Some bytes → IsFormOf words.now (Form.Merge distance aggregator)
-        → result.status ≡ 8 → ReportsLack distance aggregator bytes result.text.items }
-    ensures not_built { (bytes : List ℕ) (distance : DistanceName) (aggregator : AggregatorName)
+        → (problem : Problem) → Spelled bytes problem → result.status ≡ 8
+        → ReportsLack distance aggregator problem result.text.items }
+    ensures spelled { (bytes : List ℕ) (distance : DistanceName) (aggregator : AggregatorName)
         → S.left source.old ≡ Some bytes → IsFormOf words.now (Form.Merge distance aggregator)
+        → (problem : Problem) → Spelled bytes problem → length bytes ≤ most_bytes
         → result.status ≢ 4 → result.status ≢ 5 → result.status ≢ 6
-        → (result.status ≡ 9) ↔ ((length bytes ≤ most_bytes) × IsNotBuilt bytes) }
+        → ((length problem.atoms ≤ most_atoms) × ((result.status ≡ 0) ⊎ (result.status ≡ 8)))
+        ⊎ ((most_atoms < length problem.atoms) × (result.status ≡ 9)) }
+    ensures not_built_only { (bytes : List ℕ) (distance : DistanceName) (aggregator : AggregatorName)
+        → S.left source.old ≡ Some bytes → IsFormOf words.now (Form.Merge distance aggregator)
+        → result.status ≡ 9 → (length bytes ≤ most_bytes) × IsNotBuilt bytes }
+    ensures refused { (bytes : List ℕ) (distance : DistanceName) (aggregator : AggregatorName)
+        → S.left source.old ≡ Some bytes → IsFormOf words.now (Form.Merge distance aggregator)
+        → (fault : TextFault) → FirstFault bytes fault → length bytes ≤ most_bytes
+        → result.status ≢ 4 → result.status ≢ 5 → result.status ≢ 6
+        → (result.status ≡ 1) × (result.text.items ≡ refusal_text fault) }
+    ensures refused_only { (bytes : List ℕ) (distance : DistanceName) (aggregator : AggregatorName)
+        → S.left source.old ≡ Some bytes → IsFormOf words.now (Form.Merge distance aggregator)
+        → result.status ≡ 1 → length bytes ≤ most_bytes
+        → (fault : TextFault) × FirstFault bytes fault × (result.text.items ≡ refusal_text fault) }
 
     ensures read_fault { result.status ≡ 4 → IsReading words.now × Rose (S.faults source.old) (S.faults source.new) }
     ensures write_fault { result.status ≡ 5 → (result.sent < length result.text.items) × Rose (K.faults sink.old) (K.faults sink.new) }
@@ -102,8 +122,9 @@ pub fn run<S: Source, K: Sink>(
     ensures sent { Appends (K.taken sink.old) (K.taken sink.new) (take result.sent result.text.items) }
     ensures whole { result.status ≢ 5 → result.sent ≡ length result.text.items }
 
-    // A text that is answered was read to its end, and a run that asks no text reads nothing.
-    ensures at_end { result.status ≢ 1 → result.status ≢ 2 → result.status ≢ 4 → result.status ≢ 5 → result.status ≢ 6
+    // A text that is not too long is read to its end, and a run that asks no text reads nothing.
+    ensures at_end { S.room source.old - S.room source.new ≤ most_bytes
+        → result.status ≢ 2 → result.status ≢ 4 → result.status ≢ 5 → result.status ≢ 6
         → IsAtEnd (S.left source.new) }
     ensures unread { IsUnread words.now → source.new ≡ source.old }
     ensures source_faults { S.faults source.old ≤ S.faults source.new }

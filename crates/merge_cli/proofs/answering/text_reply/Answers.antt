@@ -1,15 +1,18 @@
-use Rattle.std.proofs.Common.{◌≡◌, subst}
-use Rattle.std.specs.Prelude.{Option, IfSome}
-use Rattle.merge_model.specs.declared.problem.Problem.{Problem}
-use Rattle.profile_text.specs.FirstKind.{IsFirstKind}
-use Rattle.profile_text.specs.ProblemText.{problem_text}
-use Rattle.merge_cli.proofs.Problems.{text_answered}
+use Rattle.std.proofs.Common.{arith}
+use Rattle.merge_cli.proofs.Problems.{text_answered, not_built_answered, stop_answered}
 use Rattle.merge_cli.proofs.answering.text_reply.Goals as goal
 
-pub returns-in-Some : goal.returns-in-Some
-returns-in-Some c =
-    let P : Option Problem → Type 0 = λ found. IfSome found (λ problem. (c.args.bytes.now ≡ problem_text problem) × IsFirstKind problem) in
-    let found = subst P c.in-Some.is c.in_ok-problem.ensures.some in
-    text_answered c.args.distance c.args.aggregator c.args.bytes.now c.in-Some.problem c.problem_reply.result
-    (record { spelled = found.0; kind = found.1 })
-    c.problem_reply.ensures
+pub returns-then-len-gt-MOST_ATOMS : goal.returns-then-len-gt-MOST_ATOMS
+returns-then-len-gt-MOST_ATOMS c =
+    not_built_answered c.args.distance c.args.aggregator c.args.bytes.now c.says.result
+    (c.in-Ok.problem, c.in-Ok.ensures.problem, omega (arith, c.if-len-gt-MOST_ATOMS.true, c.len.ensures.number))
+    c.says.ensures
+
+pub returns-else-len-gt-MOST_ATOMS : goal.returns-else-len-gt-MOST_ATOMS
+returns-else-len-gt-MOST_ATOMS c =
+    text_answered c.args.distance c.args.aggregator c.args.bytes.now c.in-Ok.problem c.problem_reply.result
+    c.in-Ok.ensures.problem (omega (arith, c.if-len-gt-MOST_ATOMS.false, c.len.ensures.number)) c.problem_reply.ensures
+
+pub returns-in-Err : goal.returns-in-Err
+returns-in-Err c =
+    stop_answered c.args.distance c.args.aggregator c.args.bytes.now c.in-Err.stop c.stop_reply.result c.in-Err.ensures.stop c.stop_reply.ensures

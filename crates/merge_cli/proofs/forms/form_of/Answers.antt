@@ -3,13 +3,10 @@ use Rattle.std.specs.Prelude.{codes, Some}
 use Rattle.merge_cli.proofs.WordLists.{three_words}
 use Rattle.merge_cli.proofs.forms.form_of.Goals as goal
 
-pub returns-in-merge-clause-some : goal.returns-in-merge-clause-some
-returns-in-merge-clause-some c =
+pub returns-in_ok-aggregator_of-in-merge-clause-some : goal.returns-in_ok-aggregator_of-in-merge-clause-some
+returns-in_ok-aggregator_of-in-merge-clause-some c =
     let first : c.get.result.now ≡ codes "merge" = search rules in
-    let second : c.get-then-len-eq3.result.now ≡ codes "hamming" = search rules in
-    let third : c.get-then-eq.result.now ≡ codes "sum" = search rules in
-    record {
-      built = tt;
-      spelled = three_words c.args.words.now _ _ _ (omega arith)
-          (c.get.ensures ∙ ap Some first) (c.get-then-len-eq3.ensures ∙ ap Some second) (c.get-then-eq.ensures ∙ ap Some third);
-    }
+    three_words c.args.words.now _ _ _ (omega arith)
+    (c.get.ensures ∙ ap Some first)
+    (c.get-in-merge.ensures ∙ ap Some c.in_ok-distance_of-in-merge.ensures.some)
+    (c.get-in-merge-2.ensures ∙ ap Some c.in_ok-aggregator_of-in-merge.ensures.some)

@@ -1,6 +1,6 @@
 use Rattle.std.proofs.Common.{inl, inr}
 use Rattle.merge_cli.proofs.Laws.{no_stop, refused_exact, too_long_exact, answered_at_end}
-use Rattle.merge_cli.proofs.Told.{told_merged, told_lacking, told_not_built}
+use Rattle.merge_cli.proofs.Told.{told_row, row_merged, row_lacking, row_spelled, row_not_built, row_refused, row_refused_only}
 use Rattle.merge_cli.proofs.top.run.Goals as goal
 
 pub returns-in-Ok-send_all-clause-read_fault : goal.returns-in-Ok-send_all-clause-read_fault
@@ -21,13 +21,32 @@ pub returns-in-Ok-send_all-clause-too_long : goal.returns-in-Ok-send_all-clause-
 returns-in-Ok-send_all-clause-too_long g c = λ four five six. too_long_exact _ _ _ _ _ _ _ c.in-Ok.ensures.ok
 
 pub returns-in-Ok-send_all-clause-merged : goal.returns-in-Ok-send_all-clause-merged
-returns-in-Ok-send_all-clause-merged g c = told_merged _ _ _ _ _ _ _ c.in-Ok.ensures.ok
+returns-in-Ok-send_all-clause-merged g c =
+    λ bytes d a told of problem spelled status.
+    row_merged d a _ _ bytes _ _ problem (told_row _ _ _ _ _ _ _ c.in-Ok.ensures.ok bytes d a told of) spelled status
 
 pub returns-in-Ok-send_all-clause-lacks_model : goal.returns-in-Ok-send_all-clause-lacks_model
-returns-in-Ok-send_all-clause-lacks_model g c = told_lacking _ _ _ _ _ _ _ c.in-Ok.ensures.ok
+returns-in-Ok-send_all-clause-lacks_model g c =
+    λ bytes d a told of problem spelled status.
+    row_lacking d a _ _ bytes _ _ problem (told_row _ _ _ _ _ _ _ c.in-Ok.ensures.ok bytes d a told of) spelled status
 
-pub returns-in-Ok-send_all-clause-not_built : goal.returns-in-Ok-send_all-clause-not_built
-returns-in-Ok-send_all-clause-not_built g c = λ bytes d a told of four five six. told_not_built _ _ _ _ _ _ _ c.in-Ok.ensures.ok bytes d a told of
+pub returns-in-Ok-send_all-clause-spelled : goal.returns-in-Ok-send_all-clause-spelled
+returns-in-Ok-send_all-clause-spelled g c =
+    λ bytes d a told of problem spelled few four five six.
+    row_spelled d a _ _ bytes _ _ problem (told_row _ _ _ _ _ _ _ c.in-Ok.ensures.ok bytes d a told of) spelled few
+
+pub returns-in-Ok-send_all-clause-not_built_only : goal.returns-in-Ok-send_all-clause-not_built_only
+returns-in-Ok-send_all-clause-not_built_only g c =
+    λ bytes d a told of nine. row_not_built d a _ _ bytes _ _ (told_row _ _ _ _ _ _ _ c.in-Ok.ensures.ok bytes d a told of) nine
+
+pub returns-in-Ok-send_all-clause-refused : goal.returns-in-Ok-send_all-clause-refused
+returns-in-Ok-send_all-clause-refused g c =
+    λ bytes d a told of fault first few four five six.
+    row_refused d a _ _ bytes _ _ fault (told_row _ _ _ _ _ _ _ c.in-Ok.ensures.ok bytes d a told of) first few
+
+pub returns-in-Ok-send_all-clause-refused_only : goal.returns-in-Ok-send_all-clause-refused_only
+returns-in-Ok-send_all-clause-refused_only g c =
+    λ bytes d a told of one few. row_refused_only d a _ _ bytes _ _ (told_row _ _ _ _ _ _ _ c.in-Ok.ensures.ok bytes d a told of) one few
 
 pub returns-in-Ok-send_all-clause-at_end : goal.returns-in-Ok-send_all-clause-at_end
-returns-in-Ok-send_all-clause-at_end g c = λ one two four five six. answered_at_end _ _ _ _ _ _ c.in-Ok.ensures.ok.answers one two
+returns-in-Ok-send_all-clause-at_end g c = λ few two four five six. answered_at_end _ _ _ _ _ _ _ c.in-Ok.ensures.ok few two

@@ -1,0 +1,35 @@
+-- How a refused text is answered.
+use Rattle.std.specs.Prelude.{◌≡◌, ℕ, List, ◌++◌, codes, decimal}
+use Rattle.problem_reading.specs.declared.stop.TextFault.{TextFault}
+use Rattle.problem_reading.specs.declared.stop.TextStop.{TextStop}
+use Rattle.problem_reading.specs.declared.stop.TextStop.TheVariants.{Fault, NoMemory}
+use Rattle.problem_reading.specs.declared.stop.TextKind.{TextKind}
+use Rattle.problem_reading.specs.declared.stop.TextKind.TheVariants.{BadByte, BadLine, BadForm, UnknownAtom, Reserved, Twice, TooMany, TooDeep, NoAtoms, NoAgent}
+
+abbrev pub kind_word : TextKind → List ℕ
+kind_word BadByte = codes "bad-byte"
+kind_word BadLine = codes "bad-line"
+kind_word BadForm = codes "bad-form"
+kind_word UnknownAtom = codes "unknown-atom"
+kind_word Reserved = codes "reserved"
+kind_word Twice = codes "twice"
+kind_word TooMany = codes "too-many"
+kind_word TooDeep = codes "too-deep"
+kind_word NoAtoms = codes "no-atoms"
+kind_word NoAgent = codes "no-agent"
+
+-- the line of a fault, and what is wrong with it
+abbrev pub refusal_of : ℕ → TextKind → List ℕ
+refusal_of line kind = codes "refused line " ++ decimal line ++ codes ": " ++ kind_word kind ++ codes "\n"
+
+abbrev pub refusal_text : TextFault → List ℕ
+refusal_text fault = refusal_of fault.line fault.kind
+
+-- the answer names this fault
+abbrev pub SaysFault : TextFault → ℕ → List ℕ → Type 0
+SaysFault fault status text = (status ≡ 1) × (text ≡ refusal_text fault)
+
+-- the answer to a text that was not read as a problem
+abbrev pub SaysStop : TextStop → ℕ → List ℕ → Type 0
+SaysStop (Fault fault) status text = SaysFault fault status text
+SaysStop NoMemory status text = ⊥

@@ -1,0 +1,36 @@
+ghost use Rattle.std.specs.Prelude.{◌≡◌, IfOk};
+ghost use Rattle.merge_cli.specs.Refusals.{kind_word, refusal_text};
+
+use edge::NoMemory;
+use itoa::Buffer;
+use problem_reading::{TextFault, TextKind};
+use std::alloc::Global;
+
+fn word_of_kind(kind: TextKind) -> &'static str
+    ensures { result.now ≡ kind_word kind }
+{
+    match kind {
+        TextKind::BadByte => "bad-byte",
+        TextKind::BadLine => "bad-line",
+        TextKind::BadForm => "bad-form",
+        TextKind::UnknownAtom => "unknown-atom",
+        TextKind::Reserved => "reserved",
+        TextKind::Twice => "twice",
+        TextKind::TooMany => "too-many",
+        TextKind::TooDeep => "too-deep",
+        TextKind::NoAtoms => "no-atoms",
+        TextKind::NoAgent => "no-agent",
+    }
+}
+
+/// The text that names the first fault of a text.
+pub fn refusal(alloc: Global, fault: TextFault) -> Result<Vec<u8>, NoMemory>
+    ensures { IfOk result (λ text. text.items ≡ refusal_text fault) }
+{
+    let mut text = Vec::from_slice(alloc, b"refused line ")?;
+    text.extend_from_slice(Buffer::new().format(fault.line).as_bytes())?;
+    text.extend_from_slice(b": ")?;
+    text.extend_from_slice(word_of_kind(fault.kind).as_bytes())?;
+    text.extend_from_slice(b"\n")?;
+    Ok(text)
+}
