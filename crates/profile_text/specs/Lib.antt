@@ -1,2 +1,1 @@
-pub mod FirstKind
 pub mod ProblemText
