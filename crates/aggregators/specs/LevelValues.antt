@@ -1,5 +1,5 @@
 -- The level values of a list of distances that are each at most a greatest one.
-use Rattle.std.specs.Prelude.{ℕ, List, [], ◌∷◌}
+use Rattle.std.specs.Prelude.{ℕ, List}
 use Rattle.ranks.specs.Ranks.{sum_rank, max_rank, counts, downs}
 
 -- of the sum: the sum

@@ -2,7 +2,7 @@
 use Rattle.std.specs.Prelude.{◌≡◌, ℕ, zero, suc, ◌+◌, ◌≤◌, ◌^◌, Bool, List, [], ◌∷◌, ◌++◌, length, map, replicate, sum, All, slice_index}
 use Rattle.clause_store.specs.declared.lit.Lit.{Lit}
 use Rattle.clause_store.specs.Extends.{Extends, Are}
-use Rattle.totalizer.specs.Counter.{Due, count_of, AllUnary, AllVarsWithin, leaves}
+use Rattle.totalizer.specs.Counter.{count_of, AllUnary, AllVarsWithin, leaves}
 use Rattle.totalizer.specs.Either.{either_due}
 use Rattle.totalizer.specs.Joined.{joined}
 use Rattle.totalizer.specs.Plus.{fresh_outputs}

@@ -1,5 +1,5 @@
 -- The levels of leximax.
-use Rattle.std.proofs.Common.{◌≡◌, ℕ, zero, suc, ◌+◌, ◌*◌, ◌<◌, ◌≤◌, ◌^◌, Bool, true, false, List, [], ◌∷◌, ◌++◌, length, map, refl, sym, ap, ◌∙◌, subst, arith, All, sum}
+use Rattle.std.proofs.Common.{◌≡◌, ℕ, zero, suc, ◌+◌, ◌*◌, ◌<◌, ◌≤◌, Bool, List, [], ◌∷◌, ◌++◌, length, refl, sym, ap, ◌∙◌, arith, All}
 use Rattle.std.specs.Prelude.{nat_lt, nat_le, if◌then◌else◌, slice_index}
 use Rattle.std.proofs.lemmas.Bool.Decides.{nat_tests}
 use Rattle.std.proofs.lemmas.List.{length-map}
@@ -9,13 +9,12 @@ use Rattle.clause_store.specs.Truth.{all_true}
 use Rattle.clause_store.specs.Extends.{Extends, Are, Always}
 use Rattle.clause_store.proofs.Truths.{all_true-append, and_left, and_right}
 use Rattle.clause_store.proofs.Blocks.{nothing, weaker, next_are}
-use Rattle.totalizer.specs.Counter.{Due, count_of, IsUnary, AreVarsWithin, AllUnary, AllVarsWithin, leaves, sum_of}
+use Rattle.totalizer.specs.Counter.{count_of, AreVarsWithin, AllUnary, AllVarsWithin, leaves, sum_of}
 use Rattle.totalizer.specs.Total.{total_due}
 use Rattle.totalizer.proofs.Law.{more_vars}
 use Rattle.totalizer.proofs.Totals.{total_law, all_unary_agree, more_all}
 use Rattle.totalizer.proofs.Sizes.{leaves_unary, leaves_within, length-leaves, size_leaves}
 use Rattle.ranks.specs.Ranks.{at_least, bit, counts, downs}
-use Rattle.merge_model.specs.Merging.{repeated}
 use Rattle.aggregators.specs.LevelValues.{leximax_values}
 use Rattle.aggregators.specs.Levels.{repeats, counts_of, top_of, column, totals_due, leximax_due, HaveLevels, AreLevels}
 use Rattle.aggregators.specs.SumLevel.{unary_repeats, within_repeats, sized_repeats, counts_repeats, length_repeats, some_repeats, total_bound}

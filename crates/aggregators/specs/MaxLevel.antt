@@ -1,5 +1,5 @@
 -- The level of the maximum.
-use Rattle.std.proofs.Common.{◌≡◌, ℕ, zero, suc, ◌+◌, ◌<◌, ◌≤◌, ◌^◌, Bool, true, false, ◌||◌, List, [], ◌∷◌, ◌++◌, length, map, max, min, replicate, refl, sym, ap, ◌∙◌, subst, arith, All}
+use Rattle.std.proofs.Common.{◌≡◌, ℕ, zero, suc, ◌+◌, ◌<◌, ◌≤◌, Bool, true, false, ◌||◌, List, [], ◌∷◌, ◌++◌, length, max, min, replicate, refl, sym, ap, ◌∙◌, subst, arith, All}
 use Rattle.std.specs.Prelude.{nat_lt, if◌then◌else◌, slice_index}
 use Rattle.std.proofs.lemmas.Bool.Decides.{nat_tests}
 use Rattle.std.proofs.lemmas.List.{length-map}
@@ -7,7 +7,7 @@ use Rattle.std.proofs.lemmas.List.Elements.{All-head, All-tail}
 use Rattle.clause_store.specs.declared.lit.Lit.{Lit}
 use Rattle.clause_store.specs.Extends.{Extends, Are, Always}
 use Rattle.clause_store.proofs.Blocks.{weaker, next_are}
-use Rattle.totalizer.specs.Counter.{count_of, IsUnary, AreVarsWithin, AllUnary, AllVarsWithin}
+use Rattle.totalizer.specs.Counter.{count_of, AllUnary, AllVarsWithin}
 use Rattle.totalizer.specs.Either.{any_of, either_due}
 use Rattle.totalizer.specs.Joined.{joined}
 use Rattle.totalizer.specs.Plus.{fresh_outputs}

@@ -1,12 +1,12 @@
 -- The level of the sum, and what holds of repeated counters.
-use Rattle.std.proofs.Common.{◌≡◌, ℕ, zero, suc, ◌+◌, ◌*◌, ◌<◌, ◌≤◌, ◌^◌, Bool, List, [], ◌∷◌, ◌++◌, length, map, replicate, refl, sym, ap, ◌∙◌, subst, arith, All, sum, sum_by, length-append}
+use Rattle.std.proofs.Common.{◌≡◌, ℕ, zero, suc, ◌+◌, ◌*◌, ◌≤◌, ◌^◌, Bool, List, [], ◌∷◌, ◌++◌, length, map, replicate, refl, ap, ◌∙◌, subst, arith, All, sum, length-append}
 use Rattle.std.proofs.lemmas.List.{length-replicate, map-append}
-use Rattle.std.proofs.lemmas.List.Sums.{sum_by-cons, sum_by-append}
-use Rattle.std.proofs.lemmas.List.Elements.{All-head, All-tail, All-append, All-replicate, All-nil, All-cons}
-use Rattle.clause_store.specs.Extends.{Extends, Are}
+use Rattle.std.proofs.lemmas.List.Sums.{sum_by-cons}
+use Rattle.std.proofs.lemmas.List.Elements.{All-head, All-tail, All-append, All-replicate, All-nil}
+use Rattle.clause_store.specs.Extends.{Are}
 use Rattle.clause_store.proofs.Blocks.{weaker}
 use Rattle.totalizer.specs.Counter.{Due, count_of, IsUnary, AreVarsWithin, AllUnary, AllVarsWithin, sum_of}
-use Rattle.totalizer.specs.Total.{total_by, total_due}
+use Rattle.totalizer.specs.Total.{total_due}
 use Rattle.totalizer.proofs.Totals.{total_fuel, total_law, all_unary_agree}
 use Rattle.totalizer.proofs.Sizes.{size, total_size}
 use Rattle.merge_model.specs.Merging.{repeated}

@@ -1,11 +1,15 @@
-ghost use Rattle.std.specs.Prelude.{◌≡◌, ℕ, ◌≤◌, List, length, All, IfOk};
+ghost use Rattle.std.specs.Prelude.{◌≡◌, ℕ, ◌+◌, ◌≤◌, ◌^◌, List, ◌++◌, length, map, All, IfOk, OnOk, OnErr};
 ghost use Rattle.std.specs.Cmp.Lexicographic.{slice_cmp};
 ghost use Rattle.std.specs.Ordering.{nat_cmp};
+ghost use Rattle.clause_store.specs.Grew.{Grew};
+ghost use Rattle.clause_store.specs.Lits.{sorted_clause};
 ghost use Rattle.aggregators.specs.Levels.{LevelsDue, HaveLevels, AreLevels};
 
+use clause_store::ClauseList;
 use edge::NoMemory;
 use merge_model::Aggregator;
 use std::alloc::Global;
+use totalizer::Unary;
 
 /// An aggregator whose order is that of level values.
 ///
@@ -13,7 +17,7 @@ use std::alloc::Global;
 /// greatest one, and `levels_due`: the clauses, the number of variables and the counters that are
 /// due for the levels, after so many variables, of counters of distances that each count so often.
 ///
-/// The laws, below the method. `in_order`: for lists of one length, the lexicographic order of the
+/// The laws, below the methods. `in_order`: for lists of one length, the lexicographic order of the
 /// level values is that of the ranks. `are_levels`: where the given counters count, the clauses that
 /// are due hold in exactly one extension, and there the levels count the level values.
 pub trait Levelled: Aggregator {
@@ -29,6 +33,23 @@ pub trait Levelled: Aggregator {
         requires within { All (λ k. k ≤ top) full.now }
         requires small { top ≤ 4096 }
         ensures { IfOk result (λ values. values.items ≡ levels_of self.now full.now top) };
+
+    /// The levels of counters of distances that each count so often: 1 to 64 in all, of one length of at most
+    /// 4,096. Appends clauses over at most 2^24 fresh variables. After `NoMemory` the list has grown by some
+    /// variables and some of these clauses, from the first on.
+    fn levels(
+        &self,
+        alloc: Global,
+        clauses: &mut ClauseList,
+        aways: &[Unary],
+        times: &[u32],
+    ) -> Result<Vec<Unary>, NoMemory>
+        requires counters { HaveLevels clauses.old.vars aways.now times.now }
+        requires room { clauses.old.vars + 2 ^ 24 ≤ 2 ^ 31 }
+        ensures levels { IfOk result (λ levels. levels.items ≡ (levels_due self.now clauses.old.vars aways.now times.now).levels) }
+        ensures vars { OnOk result (clauses.new.vars ≡ (levels_due self.now clauses.old.vars aways.now times.now).vars) }
+        ensures list { OnOk result (clauses.new.list ≡ clauses.old.list ++ map sorted_clause (levels_due self.now clauses.old.vars aways.now times.now).clauses) }
+        ensures err { OnErr result (Grew clauses.old clauses.new (levels_due self.now clauses.old.vars aways.now times.now).clauses) };
 
     ghost in_order: { (a : Self) (top : ℕ) (u w : List ℕ) → All (λ k. k ≤ top) u → All (λ k. k ≤ top) w → length u ≡ length w →
         slice_cmp nat_cmp (levels_of a u top) (levels_of a w top) ≡ slice_cmp nat_cmp (Self.rank a u) (Self.rank a w) };

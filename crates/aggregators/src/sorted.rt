@@ -1,11 +1,19 @@
-ghost use Rattle.std.specs.Prelude.{◌≡◌, ◌≤◌, length, IfOk};
+ghost use Rattle.std.specs.Prelude.{◌≡◌, ◌+◌, ◌*◌, ◌<◌, ◌≤◌, ◌^◌, ◌++◌, length, map, All, IfOk, OnOk, OnErr};
+ghost use Rattle.clause_store.specs.Grew.{Grew};
+ghost use Rattle.clause_store.specs.Lits.{sorted_clause};
+ghost use Rattle.totalizer.specs.Counter.{AllVarsWithin, leaves};
+ghost use Rattle.totalizer.specs.Total.{total_due};
 ghost use Rattle.aggregators.specs.LevelValues.{leximax_values};
+ghost use Rattle.aggregators.specs.Levels.{column, totals_due};
 
 use crate::Levelled;
+use crate::counters::{outputs_at, repeated_counters};
+use clause_store::ClauseList;
 use edge::NoMemory;
 use merge_model::Leximax;
 use ranks::at_least;
 use std::alloc::Global;
+use totalizer::{Unary, leaves, total};
 
 impl Levelled for Leximax {
     ghost use Rattle.std.proofs.Common.{sym};
@@ -26,6 +34,18 @@ impl Levelled for Leximax {
     fn level_values(&self, alloc: Global, full: &[u32], top: u32) -> Result<Vec<u32>, NoMemory> {
         values_down(alloc, full, top)
     }
+
+    fn levels(
+        &self,
+        alloc: Global,
+        clauses: &mut ClauseList,
+        aways: &[Unary],
+        times: &[u32],
+    ) -> Result<Vec<Unary>, NoMemory> {
+        let top = aways[0].len() as usize;
+        let parts = repeated_counters(alloc, aways, times)?;
+        add_levels(alloc, clauses, &parts, top)
+    }
 }
 
 /// How many entries are at least `top`, at least `top - 1`, down to at least 1.
@@ -40,4 +60,53 @@ fn values_down(alloc: Global, full: &[u32], top: u32) -> Result<Vec<u32>, NoMemo
         level -= 1;
     }
     Ok(values)
+}
+
+/// The total of the parts' outputs of number `k`, from 0.
+fn add_level(
+    alloc: Global,
+    clauses: &mut ClauseList,
+    parts: &[Unary],
+    k: usize,
+) -> Result<Unary, NoMemory>
+    requires some { 1 ≤ length parts.now }
+    requires few { length parts.now ≤ 64 }
+    requires long { All (λ part. k < length part) parts.now }
+    requires within { AllVarsWithin clauses.old.vars parts.now }
+    requires room { clauses.old.vars + 4096 ≤ 2 ^ 31 }
+    ensures outputs { IfOk result (λ level. level ≡ (total_due clauses.old.vars (leaves (column k parts.now))).outputs) }
+    ensures vars { OnOk result (clauses.new.vars ≡ (total_due clauses.old.vars (leaves (column k parts.now))).vars) }
+    ensures list { OnOk result (clauses.new.list ≡ clauses.old.list ++ map sorted_clause (total_due clauses.old.vars (leaves (column k parts.now))).clauses) }
+    ensures err { OnErr result (Grew clauses.old clauses.new (total_due clauses.old.vars (leaves (column k parts.now))).clauses) }
+{
+    let outputs = outputs_at(alloc, parts, k)?;
+    let ones = leaves(alloc, &outputs)?;
+    total(alloc, clauses, &ones)
+}
+
+/// A level for each of the `top` outputs of the parts, from the highest down.
+fn add_levels(
+    alloc: Global,
+    clauses: &mut ClauseList,
+    parts: &[Unary],
+    top: usize,
+) -> Result<Vec<Unary>, NoMemory>
+    requires some { 1 ≤ length parts.now }
+    requires few { length parts.now ≤ 64 }
+    requires sized { All (λ part. length part ≡ top) parts.now }
+    requires within { AllVarsWithin clauses.old.vars parts.now }
+    requires room { clauses.old.vars + 4096 * top ≤ 2 ^ 31 }
+    ensures levels { IfOk result (λ levels. levels.items ≡ (totals_due top clauses.old.vars parts.now).levels) }
+    ensures vars { OnOk result (clauses.new.vars ≡ (totals_due top clauses.old.vars parts.now).vars) }
+    ensures list { OnOk result (clauses.new.list ≡ clauses.old.list ++ map sorted_clause (totals_due top clauses.old.vars parts.now).clauses) }
+    ensures err { OnErr result (Grew clauses.old clauses.new (totals_due top clauses.old.vars parts.now).clauses) }
+{
+    let mut levels = Vec::new(alloc);
+    let mut left = top;
+    while left > 0 {
+        left -= 1;
+        let level = add_level(alloc, clauses, parts, left)?;
+        levels.push(level)?;
+    }
+    Ok(levels)
 }

@@ -1,8 +1,11 @@
 use crate::Levelled;
+use crate::counters::repeated_counters;
+use clause_store::ClauseList;
 use edge::NoMemory;
 use merge_model::Sum;
 use ranks::total;
 use std::alloc::Global;
+use totalizer::Unary;
 
 impl Levelled for Sum {
     ghost use Rattle.std.proofs.Common.{refl};
@@ -22,5 +25,19 @@ impl Levelled for Sum {
     fn level_values(&self, alloc: Global, full: &[u32], _top: u32) -> Result<Vec<u32>, NoMemory> {
         let values = vec![in alloc; total(full)]?;
         Ok(values)
+    }
+
+    fn levels(
+        &self,
+        alloc: Global,
+        clauses: &mut ClauseList,
+        aways: &[Unary],
+        times: &[u32],
+    ) -> Result<Vec<Unary>, NoMemory> {
+        let parts = repeated_counters(alloc, aways, times)?;
+        let level = totalizer::total(alloc, clauses, &parts)?;
+        let mut levels = Vec::new(alloc);
+        levels.push(level)?;
+        Ok(levels)
     }
 }
