@@ -2,3 +2,4 @@ pub mod NameLists
 pub mod Fitted
 pub mod Keeping
 pub mod Progress
+pub mod OneSaid

@@ -1,3 +1,4 @@
+pub mod Canonical
 pub mod Drafts
 pub mod Faults
 pub mod Kept

@@ -12,6 +12,7 @@ mod stop;
 #[cfg(test)]
 mod tests;
 mod text;
+mod writing;
 
 pub use judging::judge;
 pub use reading::Reading;

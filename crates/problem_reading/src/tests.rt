@@ -1,4 +1,4 @@
-use crate::{TextFault, TextKind, TextStop, read_problem};
+use crate::{Reading, TextFault, TextKind, TextStop, read_problem};
 use std::test::Fail;
 
 #[test]
@@ -64,6 +64,29 @@ fn a_problem_is_read(rt: HostRuntime) -> Result<(), Fail> {
             assert_eq!(rt; shown.as_str(), want);
             assert_eq!(rt; problem.atoms.number_of("c"), Some(2));
         }
+    }
+    Ok(())
+}
+
+#[test]
+fn a_line_is_canonical_as_it_is_written(rt: HostRuntime) -> Result<(), Fail> {
+    let alloc = rt.alloc();
+    let rows: [(&[u8], bool); 10] = [
+        (b"atoms a b", true),
+        (b"atoms a  b", false),
+        (b"atoms a # a comment", false),
+        (b"", false),
+        (b"constraint true", true),
+        (b"agent p : true", true),
+        (b"agent p times 1 : true", false),
+        (b"agent p times 2 : true", true),
+        (b"ask true", true),
+        (b"ask (true)", false),
+    ];
+    for (line, canonical) in rows {
+        let mut reading = Reading::new(alloc);
+        let written = reading.line(line).ok();
+        assert_eq!(rt; written, Some(canonical));
     }
     Ok(())
 }

@@ -1,5 +1,5 @@
 -- Lines and names that are written one by one.
-use Rattle.std.proofs.Common.{◌≡◌, ℕ, suc, arith, ◌+◌, ◌<◌, List, [], ◌∷◌, ◌++◌, map, take, length, slice_get, get_or, unwrap_or, Some, refl, sym, ap, ◌∙◌, append_assoc, append-nil}
+use Rattle.std.proofs.Common.{◌≡◌, ℕ, suc, arith, ◌+◌, ◌<◌, List, [], ◌∷◌, ◌++◌, map, take, drop, zero, length, slice_get, get_or, unwrap_or, Some, refl, sym, ap, ◌∙◌, append_assoc, append-nil}
 use Rattle.std.specs.Prelude.{codes}
 use Rattle.std.proofs.lemmas.List.{map-append}
 use Rattle.std.proofs.lemmas.Option.{unwrap_or-slice_get}
@@ -43,6 +43,26 @@ names_step names k name old before between after within is so_far blank more =
     ∙ append_assoc (old ++ spaced_names (take k names)) (codes " ") name
     ∙ append_assoc old (spaced_names (take k names)) (codes " " ++ name)
     ∙ ap (λ t. old ++ t) (sym written)
+
+-- a place of a list and what is after it
+drop_at : {X : Type 0} (xs : List X) (k : ℕ) (x : X) → slice_get xs k ≡ Some x → drop k xs ≡ x ∷ drop (suc k) xs
+drop_at [] k x h = absurd (grind arith)
+drop_at (y ∷ xs) zero x h = let same : y ≡ x = cc in ap (λ z. z ∷ xs) same
+drop_at (y ∷ xs) (suc k) x h = drop_at xs k x h
+
+-- one name more is written of those that are left
+pub left_step : (names : List (List ℕ)) (k : ℕ) (name before between after whole : List ℕ) → slice_get names k ≡ Some name →
+    before ++ spaced_names (drop k names) ≡ whole → between ≡ before ++ codes " " → after ≡ between ++ name → after ++ spaced_names (drop (k + 1) names) ≡ whole
+left_step names k name before between after whole is so_far blank more =
+    let rest = spaced_names (drop (k + 1) names) in
+    let next : suc k ≡ k + 1 = omega arith in
+    let left : spaced_names (drop k names) ≡ codes " " ++ name ++ rest =
+    ap spaced_names (drop_at names k name is) ∙ ap (λ j. codes " " ++ name ++ spaced_names (drop j names)) next in
+    ap (λ t. t ++ rest) (more ∙ ap (λ t. t ++ name) blank)
+    ∙ append_assoc (before ++ codes " ") name rest
+    ∙ append_assoc before (codes " ") (name ++ rest)
+    ∙ ap (λ t. before ++ t) (sym left)
+    ∙ so_far
 
 -- the two first lines, and the lines of two lists
 pub four_parts : (start first second third fourth a b : List ℕ) (cs ds : List (List ℕ)) → start ≡ [] → first ≡ start ++ (a ++ codes "\n") →

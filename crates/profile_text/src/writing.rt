@@ -79,10 +79,20 @@ fn write_agent_line(agent: &Agent, atoms: &Atoms, into: &mut Vec<u8>) -> Result<
     requires { width_of agent.now.base ≤ length atoms.now }
     ensures { OnOk result (into.new.items ≡ into.old.items ++ (agent_line atoms.now agent.now ++ codes "\n")) }
 {
+    write_agent(agent, atoms, into)?;
+    write_bytes(b"\n", into)
+}
+
+/// Appends the line of an agent without its line feed.
+pub(crate) fn write_agent(agent: &Agent, atoms: &Atoms, into: &mut Vec<u8>) -> Result<(), NoMemory>
+    requires { width_of agent.now.base ≤ length atoms.now }
+    ensures { OnOk result (into.new.items ≡ into.old.items ++ agent_line atoms.now agent.now) }
+{
     write_bytes(b"agent ", into)?;
     write_bytes(agent.name.as_slice(), into)?;
     write_times(agent.times, into)?;
-    write_formula_line(b" : ", &agent.base, atoms, into)
+    write_bytes(b" : ", into)?;
+    write_formula(&agent.base, atoms, into)
 }
 
 /// Appends how often an agent counts, where that is not once.
