@@ -1,2 +1,5 @@
+pub mod EachText
+pub mod Kept
+pub mod LineChoice
 pub mod LineLaws
 pub mod TextLaws

@@ -1,1 +1,2 @@
+pub mod HasReading
 pub mod Sameness
