@@ -11,7 +11,7 @@ use Rattle.totalizer.specs.Counter.{AreVarsWithin, AllVarsWithin, leaves}
 use Rattle.totalizer.specs.Total.{total_due}
 use Rattle.totalizer.proofs.Sizes.{length-leaves, size_leaves}
 use Rattle.aggregators.specs.Levels.{top_of, column, totals_due}
-use Rattle.aggregators.specs.LeximaxLevels.{column_length}
+use Rattle.aggregators.specs.LevelOutputs.{column_length}
 use Rattle.aggregators.specs.SumLevel.{total_bound}
 
 pub append_none : {X : Type 0} (xs : List X) → xs ++ [] ≡ xs

@@ -1,8 +1,9 @@
 -- The levels of an aggregator: counters whose values are the level values of the repeated distances.
-use Rattle.std.specs.Prelude.{◌≡◌, ℕ, zero, suc, ◌+◌, ◌≤◌, ◌^◌, Bool, List, [], ◌∷◌, ◌++◌, length, map, replicate, sum, All, slice_index}
+use Rattle.std.specs.Prelude.{◌≡◌, ℕ, zero, suc, ◌+◌, ◌<◌, ◌≤◌, ◌^◌, Bool, List, [], ◌∷◌, ◌++◌, length, map, replicate, sum, All, Contains, slice_index, ◌⊎◌}
+use Rattle.std.specs.List.{AllZip, concat}
 use Rattle.clause_store.specs.declared.lit.Lit.{Lit}
 use Rattle.clause_store.specs.Extends.{Extends, Are}
-use Rattle.totalizer.specs.Counter.{count_of, AllUnary, AllVarsWithin, leaves}
+use Rattle.totalizer.specs.Counter.{count_of, AllUnary, AllVarsWithin, AreDistinct, leaves}
 use Rattle.totalizer.specs.Either.{either_due}
 use Rattle.totalizer.specs.Joined.{joined}
 use Rattle.totalizer.specs.Plus.{fresh_outputs}
@@ -70,11 +71,23 @@ pub record HaveLevels (v : ℕ) (aways : List (List ℕ)) (times : List ℕ) : T
   pub small : top_of aways ≤ 4096
   pub within : AllVarsWithin v aways
 
+-- each variable is above v, or one of the given ones
+abbrev pub AreFreshOrOf : ℕ → List ℕ → List ℕ → Type 0
+AreFreshOrOf v given xs = All (λ x. (v < x) ⊎ Contains given x) xs
+
+-- as many values as levels, each at most its level's length
+abbrev pub FitLevels : List ℕ → List (List ℕ) → Type 0
+FitLevels values levels = AllZip (λ value level. value ≤ length level) values levels
+
 -- where the counters count, the clauses hold in exactly one extension, and there the levels count the level values of
--- the repeated distances
+-- the repeated distances. The level values of whatever distances the counters could count fit the levels. Each output
+-- of a level is fresh or an output of a counter, and all of them are distinct where those of the counters are
 pub record AreLevels (v : ℕ) (aways : List (List ℕ)) (times : List ℕ) (values_of : List ℕ → ℕ → List ℕ) (d : LevelsDue) : Type 0 where
   pub extends : Extends (λ b. AllUnary b aways) (Are d.clauses) v d.vars
   pub few : d.vars ≤ v + 2 ^ 24
   pub within : AllVarsWithin d.vars d.levels
   pub in_order : (b : ℕ → Bool) → AllUnary b aways → Are d.clauses b → AllUnary b d.levels
   pub values : (b : ℕ → Bool) → AllUnary b aways → Are d.clauses b → counts_of b d.levels ≡ values_of (repeated times (counts_of b aways)) (top_of aways)
+  pub fits : (us : List ℕ) → length us ≡ length aways → All (λ u. u ≤ top_of aways) us → FitLevels (values_of (repeated times us) (top_of aways)) d.levels
+  pub origin : AreFreshOrOf v (concat aways) (concat d.levels)
+  pub distinct : AreDistinct (concat aways) → AreDistinct (concat d.levels)

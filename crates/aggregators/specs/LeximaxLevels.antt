@@ -2,7 +2,7 @@
 use Rattle.std.proofs.Common.{◌≡◌, ℕ, zero, suc, ◌+◌, ◌*◌, ◌<◌, ◌≤◌, Bool, List, [], ◌∷◌, ◌++◌, length, refl, sym, ap, ◌∙◌, arith, All}
 use Rattle.std.specs.Prelude.{nat_lt, nat_le, if◌then◌else◌, slice_index}
 use Rattle.std.proofs.lemmas.Bool.Decides.{nat_tests}
-use Rattle.std.proofs.lemmas.List.{length-map}
+use Rattle.std.specs.List.{concat}
 use Rattle.std.proofs.lemmas.List.Elements.{All-head, All-tail}
 use Rattle.clause_store.specs.declared.lit.Lit.{Lit}
 use Rattle.clause_store.specs.Truth.{all_true}
@@ -13,19 +13,20 @@ use Rattle.totalizer.specs.Counter.{count_of, AreVarsWithin, AllUnary, AllVarsWi
 use Rattle.totalizer.specs.Total.{total_due}
 use Rattle.totalizer.proofs.Law.{more_vars}
 use Rattle.totalizer.proofs.Totals.{total_law, all_unary_agree, more_all}
-use Rattle.totalizer.proofs.Sizes.{leaves_unary, leaves_within, length-leaves, size_leaves}
+use Rattle.totalizer.proofs.Sizes.{leaves_unary, leaves_within, length-leaves, size_leaves, total_size}
 use Rattle.ranks.specs.Ranks.{at_least, bit, counts, downs}
+use Rattle.ranks.proofs.Counts.{at_least_most}
+use Rattle.merge_model.specs.Merging.{repeated}
 use Rattle.aggregators.specs.LevelValues.{leximax_values}
-use Rattle.aggregators.specs.Levels.{repeats, counts_of, top_of, column, totals_due, leximax_due, HaveLevels, AreLevels}
-use Rattle.aggregators.specs.SumLevel.{unary_repeats, within_repeats, sized_repeats, counts_repeats, length_repeats, some_repeats, total_bound}
+use Rattle.aggregators.specs.Levels.{repeats, counts_of, top_of, column, totals_due, leximax_due, FitLevels, HaveLevels, AreLevels}
+use Rattle.aggregators.specs.Repeats.{unary_repeats, within_repeats, sized_repeats, counts_repeats, length_repeats, some_repeats, length_repeated, repeats_alone}
+use Rattle.aggregators.specs.LevelOutputs.{column_length, totals_outputs}
+use Rattle.aggregators.specs.SumLevel.{total_bound}
 
 pub column_within : (v k n : ℕ) (cs : List (List ℕ)) → AllVarsWithin v cs → All (λ c. length c ≡ n) cs → k < n → AreVarsWithin v (column k cs)
 column_within v k n [] w s lt j l = absurd (omega arith)
 column_within v k n (c ∷ cs) w s lt zero l = w.0 k (omega (arith, All-head (λ x. length x ≡ n) c cs s))
 column_within v k n (c ∷ cs) w s lt (suc j) l = column_within v k n cs w.1 (All-tail (λ x. length x ≡ n) c cs s) lt j (omega arith)
-
-pub column_length : (k : ℕ) (cs : List (List ℕ)) → length (column k cs) ≡ length cs
-column_length k cs = length-map cs (λ c. slice_index c k)
 
 bit_is : (t : Bool) (k m : ℕ) → t ≡ nat_lt k m → (if t then suc 0 else 0) ≡ bit (nat_le (suc k) m)
 bit_is t k m e = ap (λ x. if x then suc 0 else 0) e ∙ (let same : (if nat_lt k m then suc 0 else 0) ≡ bit (nat_le (suc k) m) = grind (arith, nat_tests) in same)
@@ -84,12 +85,24 @@ totals_are (suc k) n v parts some few w s le =
           ap (λ m. m ∷ counts_of b rest_due.levels) here ∙ ap (λ ms. at_least (suc k) (counts_of b parts) ∷ ms) later;
     }
 
+-- a level has as many outputs as there are parts
+totals_fit : (k v : ℕ) (parts : List (List ℕ)) (full : List ℕ) → 1 ≤ length parts → length full ≡ length parts → FitLevels (counts (downs k) full) (totals_due k v parts).levels
+totals_fit zero v parts full some same = tt
+totals_fit (suc k) v parts full some same =
+    let xs = column k parts in
+    let size = column_length k parts in
+    let outputs = (total_size (length (leaves xs)) v (leaves xs) (omega (arith, length-leaves xs)) (omega arith)).1 in
+    (omega (arith, at_least_most (suc k) full, outputs, size_leaves xs), totals_fit k (total_due v (leaves xs)).vars parts full some same)
+
 pub leximax_is : (v : ℕ) (aways : List (List ℕ)) (times : List ℕ) → HaveLevels v aways times → AreLevels v aways times leximax_values (leximax_due v aways times)
 leximax_is v aways times h =
     let n = top_of aways in
     let parts = repeats times aways in
     let size = length_repeats times aways h.lengths in
-    let t = totals_are n n v parts (some_repeats v aways times h) (omega (arith, h.few)) (within_repeats v times aways h.within) (sized_repeats n times aways h.sized) (omega arith) in
+    let some = some_repeats v aways times h in
+    let sized = sized_repeats n times aways h.sized in
+    let t = totals_are n n v parts some (omega (arith, h.few)) (within_repeats v times aways h.within) sized (omega arith) in
+    let o = totals_outputs n v parts (concat aways) some sized (λ one. ap concat (repeats_alone times aways h.lengths h.positive one)) in
     let d = totals_due n v parts in
     record {
       extends = weaker (λ b. AllUnary b aways) Always (Are d.clauses) (Are d.clauses) v d.vars t.extends (λ a b h' p. all_unary_agree v a b aways h' h.within p) t.extends.within (λ b p. tt) (λ b p r. r) (λ b p r. r);
@@ -97,4 +110,7 @@ leximax_is v aways times h =
       within = t.within;
       in_order = λ b p r. t.in_order b r;
       values = λ b p r. t.values b (unary_repeats b times aways p) r ∙ ap (λ (ns : List ℕ). counts (downs n) ns) (counts_repeats b times aways);
+      fits = λ us same small. totals_fit n v parts (repeated times us) some (omega (arith, length_repeated times us (same ∙ h.lengths)));
+      origin = o.origin;
+      distinct = o.distinct;
     }

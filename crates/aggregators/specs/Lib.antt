@@ -3,3 +3,5 @@ pub mod Levels
 pub mod LeximaxLevels
 pub mod MaxLevel
 pub mod SumLevel
+pub mod LevelOutputs
+pub mod Repeats

@@ -2,7 +2,8 @@
 use Rattle.std.proofs.Common.{◌≡◌, ℕ, zero, suc, ◌+◌, ◌<◌, ◌≤◌, Bool, true, false, ◌||◌, List, [], ◌∷◌, ◌++◌, length, max, min, replicate, refl, sym, ap, ◌∙◌, subst, arith, All}
 use Rattle.std.specs.Prelude.{nat_lt, if◌then◌else◌, slice_index}
 use Rattle.std.proofs.lemmas.Bool.Decides.{nat_tests}
-use Rattle.std.proofs.lemmas.List.{length-map}
+use Rattle.std.proofs.lemmas.List.{append-nil, length-map}
+use Rattle.std.specs.List.{concat}
 use Rattle.std.proofs.lemmas.List.Elements.{All-head, All-tail}
 use Rattle.clause_store.specs.declared.lit.Lit.{Lit}
 use Rattle.clause_store.specs.Extends.{Extends, Are, Always}
@@ -13,12 +14,17 @@ use Rattle.totalizer.specs.Joined.{joined}
 use Rattle.totalizer.specs.Plus.{fresh_outputs}
 use Rattle.totalizer.proofs.Disjunctions.{either_is}
 use Rattle.totalizer.proofs.Law.{count_le, index_fresh, joined_to, more_vars}
+use Rattle.totalizer.proofs.Sizes.{fresh_outputs_are}
 use Rattle.totalizer.proofs.Steps.{length-fresh}
 use Rattle.totalizer.proofs.Totals.{all_unary_agree}
 use Rattle.ranks.specs.Ranks.{greatest}
+use Rattle.ranks.proofs.Counts.{at_most}
+use Rattle.ranks.proofs.Laws.{greatest_le}
 use Rattle.merge_model.specs.Merging.{repeated}
+use Rattle.merge_model.proofs.Fulls.{repeated_small}
 use Rattle.aggregators.specs.LevelValues.{max_values}
 use Rattle.aggregators.specs.Levels.{counts_of, top_of, column, max_due, HaveLevels, AreLevels}
+use Rattle.aggregators.specs.LevelOutputs.{HaveOutputs, fresh_have}
 use Rattle.aggregators.specs.LeximaxLevels.{no_clause, column_within}
 
 -- the clauses of the output of one number
@@ -95,6 +101,10 @@ fresh_in v n k lt =
     let e = index_fresh v n k l in
     (omega arith, omega arith)
 
+max_outputs : (v n : ℕ) (given : List ℕ) → HaveOutputs v given (concat (fresh_outputs v n ∷ []))
+max_outputs v n given =
+    subst (λ xs. HaveOutputs v given xs) (sym (append-nil (fresh_outputs v n))) (fresh_have v (v + n) given (fresh_outputs v n) (fresh_outputs_are v v (v + n) n (omega arith) (omega arith)))
+
 pub max_is : (v : ℕ) (aways : List (List ℕ)) (times : List ℕ) → HaveLevels v aways times → AreLevels v aways times max_values (max_due v aways times)
 max_is v aways times h =
     let n = top_of aways in
@@ -106,6 +116,7 @@ max_is v aways times h =
     λ b p r. (let most : greatest (counts_of b aways) ≤ n = greatest_counts b n aways h.sized in
     let is : count_of b (fresh_outputs v n) ≡ min n (greatest (counts_of b aways)) = count_fresh v n (greatest (counts_of b aways)) b (tells b p r) in
     omega arith) in
+    let o = max_outputs v n (concat aways) in
     record {
       extends = weaker (λ b. AllUnary b aways) Always (Are cs) (Are cs) v (v + n) extends (λ a b h' p. all_unary_agree v a b aways h' h.within p) extends.within (λ b p. tt) (λ b p r. r) (λ b p r. r);
       few = omega (arith, h.small);
@@ -118,4 +129,8 @@ max_is v aways times h =
       );
       values = λ b p r.
           ap (λ m. m ∷ []) (count b p r ∙ sym (greatest_repeated times (counts_of b aways) (length-map aways (count_of b) ∙ h.lengths) h.positive));
+      fits = λ us same small.
+          (omega (arith, length-fresh v n, greatest_le n (repeated times us) (at_most n (repeated times us) (repeated_small n times us small))), tt);
+      origin = o.origin;
+      distinct = o.distinct;
     }

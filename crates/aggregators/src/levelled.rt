@@ -19,7 +19,9 @@ use totalizer::Unary;
 ///
 /// The laws, below the methods. `in_order`: for lists of one length, the lexicographic order of the
 /// level values is that of the ranks. `are_levels`: where the given counters count, the clauses that
-/// are due hold in exactly one extension, and there the levels count the level values.
+/// are due hold in exactly one extension, and there the levels count the level values. Level values
+/// are as many as levels, each at most its level's length. Each output of a level is a fresh variable
+/// or an output of a given counter, and all of them are distinct where those of the counters are.
 pub trait Levelled: Aggregator {
     ghost levels_of: { Self → List ℕ → ℕ → List ℕ };
 

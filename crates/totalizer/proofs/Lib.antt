@@ -3,3 +3,4 @@ pub mod Law
 pub mod Totals
 pub mod Disjunctions
 pub mod Sizes
+pub mod Distinct

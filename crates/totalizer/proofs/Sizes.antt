@@ -4,10 +4,10 @@ use Rattle.std.specs.Prelude.{nat_le, nat_lt, if◌then◌else◌, slice_index}
 use Rattle.std.proofs.lemmas.Bool.Decides.{nat_tests}
 use Rattle.totalizer.specs.Counter.{Due, IsUnary, AreVarsWithin, AllUnary, AllVarsWithin, leaves, AreFresh}
 use Rattle.totalizer.specs.Plus.{fresh_outputs}
-use Rattle.totalizer.specs.Total.{sum_due, total_by}
+use Rattle.totalizer.specs.Total.{sum_due, total_by, total_due}
 use Rattle.totalizer.proofs.Steps.{length-fresh}
 use Rattle.totalizer.proofs.Law.{index_fresh}
-use Rattle.totalizer.proofs.Totals.{total_grows}
+use Rattle.totalizer.proofs.Totals.{total_grows, total_more}
 
 one_unary : (t : Bool) → t ≡ nat_lt 0 (if t then 1 else 0)
 one_unary true = refl
@@ -111,3 +111,15 @@ total_fresh (suc f) u v (x ∷ y ∷ xs) lo hi le h =
     let b = total_grows f l.vars (drop n parts) in
     subst (λ (d : Due). AreFresh u d.vars d.outputs) (sym (if_false (nat_le (length parts) 1) _ _ e))
     (fresh_outputs_are u r.vars (r.vars + (length l.outputs + length r.outputs)) (length l.outputs + length r.outputs) (omega arith) (omega arith))
+
+-- a total of two or more parts has new outputs alone
+pub more_fresh : (v : ℕ) (parts : List (List ℕ)) → 2 ≤ length parts → AreFresh v (total_due v parts).vars (total_due v parts).outputs
+more_fresh v parts big =
+    let front = take (length parts / 2) parts in
+    let l = total_due v front in
+    let back = drop (length parts / 2) parts in
+    let r = total_due l.vars back in
+    let a = total_grows (length front) v front in
+    let b = total_grows (length back) l.vars back in
+    let n = length l.outputs + length r.outputs in
+    subst (λ (d : Due). AreFresh v d.vars d.outputs) (sym (total_more v parts big)) (fresh_outputs_are v r.vars (r.vars + n) n (omega arith) (omega arith))

@@ -33,11 +33,15 @@ AllVarsWithin v (p ∷ ps) = AreVarsWithin v p × AllVarsWithin v ps
 abbrev pub leaves : List ℕ → List (List ℕ)
 leaves xs = map (λ x. x ∷ []) xs
 
+-- no variable stands twice
+abbrev pub AreDistinct : List ℕ → Type 0
+AreDistinct xs = (j k : ℕ) → j < length xs → k < length xs → slice_index xs j ≡ slice_index xs k → j ≡ k
+
 -- distinct variables above v, up to w
 pub record AreFresh (v w : ℕ) (xs : List ℕ) : Type 0 where
   pub above : (k : ℕ) → k < length xs → v < slice_index xs k
   pub within : (k : ℕ) → k < length xs → slice_index xs k ≤ w
-  pub distinct : (j k : ℕ) → j < length xs → k < length xs → slice_index xs j ≡ slice_index xs k → j ≡ k
+  pub distinct : AreDistinct xs
 
 -- the sum of the values
 abbrev pub sum_of : (ℕ → Bool) → List (List ℕ) → ℕ

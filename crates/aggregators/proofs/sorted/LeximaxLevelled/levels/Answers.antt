@@ -3,7 +3,7 @@ use Rattle.clause_store.proofs.Grows.{grew_none}
 use Rattle.totalizer.specs.Counter.{AllVarsWithin}
 use Rattle.totalizer.proofs.Steps.{on_err}
 use Rattle.aggregators.specs.Levels.{top_of, leximax_due}
-use Rattle.aggregators.specs.SumLevel.{some_repeats, length_repeats, sized_repeats, within_repeats}
+use Rattle.aggregators.specs.Repeats.{some_repeats, length_repeats, sized_repeats, within_repeats}
 use Rattle.aggregators.proofs.Steps.{top_first}
 use Rattle.aggregators.proofs.sorted.LeximaxLevelled.levels.Goals as goal
 

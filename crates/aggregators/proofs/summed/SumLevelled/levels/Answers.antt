@@ -4,7 +4,8 @@ use Rattle.totalizer.specs.Counter.{AllVarsWithin}
 use Rattle.totalizer.specs.Total.{total_due}
 use Rattle.totalizer.proofs.Steps.{on_err}
 use Rattle.aggregators.specs.Levels.{repeats, sum_due}
-use Rattle.aggregators.specs.SumLevel.{some_repeats, within_repeats, sum_room}
+use Rattle.aggregators.specs.Repeats.{some_repeats, within_repeats}
+use Rattle.aggregators.specs.SumLevel.{sum_room}
 use Rattle.aggregators.proofs.summed.SumLevelled.levels.Goals as goal
 
 pub returns-in_err-parts-clause-err : goal.returns-in_err-parts-clause-err

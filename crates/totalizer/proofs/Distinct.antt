@@ -1,0 +1,76 @@
+-- Distinct variables of lists that are joined.
+use Rattle.std.proofs.Common.{◌≡◌, ℕ, ◌+◌, ◌-◌, ◌<◌, ◌≤◌, inl, inr, List, [], ◌++◌, length, refl, sym, ◌∙◌, arith, length-append}
+use Rattle.std.specs.Prelude.{slice_index}
+use Rattle.std.proofs.lemmas.Bool.Decides.{leb_tells}
+use Rattle.std.proofs.lemmas.List.{get_or_append_left, get_or-append_right, get_or-append-add}
+use Rattle.totalizer.specs.Counter.{AreDistinct, AreFresh}
+
+-- where a place of two joined lists lies
+pub place_left : (xs ys : List ℕ) (k : ℕ) → k < length xs → slice_index (xs ++ ys) k ≡ slice_index xs k
+place_left xs ys k lt = get_or_append_left xs ys 0 k lt
+
+pub place_right : (xs ys : List ℕ) (k : ℕ) → length xs ≤ k → slice_index (xs ++ ys) k ≡ slice_index ys (k - length xs)
+place_right xs ys k le = get_or-append_right xs ys (length xs) k 0 refl le
+
+-- no variable of one list is one of the other
+abbrev pub AreApart : List ℕ → List ℕ → Type 0
+AreApart xs ys = (j k : ℕ) → j < length xs → k < length ys → slice_index xs j ≡ slice_index ys k → ⊥
+
+pub distinct_append : (xs ys : List ℕ) → AreDistinct xs → AreDistinct ys → AreApart xs ys → AreDistinct (xs ++ ys)
+distinct_append xs ys f g apart j k hj hk e =
+    let size = length-append xs ys in
+    elim (leb_tells (length xs) j) [
+      | inl a ↦ (let ja : length xs ≤ j = a.1 in
+          let at_j = place_right xs ys j ja in
+          elim (leb_tells (length xs) k) [
+            | inl b ↦ (let kb : length xs ≤ k = b.1 in
+                let same : j - length xs ≡ k - length xs = g (j - length xs) (k - length xs) (omega arith) (omega arith) (sym at_j ∙ e ∙ place_right xs ys k kb) in
+                omega arith)
+            | inr b ↦ absurd (apart k (j - length xs) b.1 (omega arith) (sym (place_left xs ys k b.1) ∙ sym e ∙ at_j))
+          ])
+      | inr a ↦ (let at_j = place_left xs ys j a.1 in
+          elim (leb_tells (length xs) k) [
+            | inl b ↦ (let kb : length xs ≤ k = b.1 in absurd (apart j (k - length xs) a.1 (omega arith) (sym at_j ∙ e ∙ place_right xs ys k kb)))
+            | inr b ↦ f j k a.1 b.1 (sym at_j ∙ e ∙ place_left xs ys k b.1)
+          ])
+    ]
+
+pub distinct_left : (xs ys : List ℕ) → AreDistinct (xs ++ ys) → AreDistinct xs
+distinct_left xs ys f j k hj hk e =
+    f j k (omega (arith, length-append xs ys)) (omega (arith, length-append xs ys)) (place_left xs ys j hj ∙ e ∙ sym (place_left xs ys k hk))
+
+pub distinct_right : (xs ys : List ℕ) → AreDistinct (xs ++ ys) → AreDistinct ys
+distinct_right xs ys f j k hj hk e =
+    let n = length xs in
+    let size = length-append xs ys in
+    let a : slice_index (xs ++ ys) (n + j) ≡ slice_index ys j = get_or-append-add xs ys j 0 in
+    let b : slice_index (xs ++ ys) (n + k) ≡ slice_index ys k = get_or-append-add xs ys k 0 in
+    let same : n + j ≡ n + k = f (n + j) (n + k) (omega arith) (omega arith) (a ∙ e ∙ sym b) in
+    omega arith
+
+pub distinct_apart : (xs ys : List ℕ) → AreDistinct (xs ++ ys) → AreApart xs ys
+distinct_apart xs ys f j k hj hk e =
+    let n = length xs in
+    let size = length-append xs ys in
+    let b : slice_index (xs ++ ys) (n + k) ≡ slice_index ys k = get_or-append-add xs ys k 0 in
+    let same : j ≡ n + k = f j (n + k) (omega arith) (omega arith) (place_left xs ys j hj ∙ e ∙ sym b) in
+    omega arith
+
+pub fresh_none : (v w : ℕ) → AreFresh v w []
+fresh_none v w = record { above = λ k lt. absurd (omega arith); within = λ k lt. absurd (omega arith); distinct = λ j k hj hk e. absurd (omega arith) }
+
+-- up to v, and then above it
+pub fresh_append : (u v w : ℕ) (xs ys : List ℕ) → u ≤ v → v ≤ w → AreFresh u v xs → AreFresh v w ys → AreFresh u w (xs ++ ys)
+fresh_append u v w xs ys le hi f g =
+    let size = length-append xs ys in
+    record {
+      above = λ k lt. elim (leb_tells (length xs) k) [
+        | inl a ↦ (let far : length xs ≤ k = a.1 in let y = g.above (k - length xs) (omega arith) in omega (arith, place_right xs ys k far))
+        | inr a ↦ (let y = f.above k a.1 in omega (arith, place_left xs ys k a.1))
+      ];
+      within = λ k lt. elim (leb_tells (length xs) k) [
+        | inl a ↦ (let far : length xs ≤ k = a.1 in let y = g.within (k - length xs) (omega arith) in omega (arith, place_right xs ys k far))
+        | inr a ↦ (let y = f.within k a.1 in omega (arith, place_left xs ys k a.1))
+      ];
+      distinct = distinct_append xs ys f.distinct g.distinct (λ j k hj hk e. let a = f.within j hj in let b = g.above k hk in omega arith);
+    }
