@@ -3,3 +3,5 @@ pub mod Fitted
 pub mod Keeping
 pub mod Progress
 pub mod OneSaid
+pub mod OneDraft
+pub mod ReadingSteps
