@@ -6,6 +6,10 @@ ghost use Rattle.problem_reading.specs.declared.stop.TextFault.{TextFault};
 ghost use Rattle.problem_reading.specs.Spelling.{Spelled, FirstFault};
 ghost use Rattle.problem_laws.specs.Sameness.{SameProblem, SameFault};
 
+mod next;
+
+pub use next::each_next_line_has_one_outcome;
+
 /// A text spells one problem at most, has one first fault at most, and never both. That it spells
 /// one or has one is what `read_problem` shows.
 pub fn each_text_has_one_reading(_bytes: &[u8])

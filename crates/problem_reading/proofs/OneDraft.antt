@@ -38,3 +38,11 @@ declares_once (one_more {lines = ls} {d = d} line e h adds) (one_more {lines = k
     let before = declares_once h i parts.0 in
     let moved = subst (λ (x : Line). Adds c x e) parts.1 (subst (λ (x : Draft). Adds x line e) before adds) in
     adds_once c other e f moved more
+
+-- the last of lines without a fault adds to what those before it declare
+pub last_adds : {ls : List Line} {e : Draft} → Declares ls e → (before : List Line) (line : Line) → ls ≡ before ++ line ∷ [] →
+    (d : Draft) × Declares before d × Adds d line e
+last_adds no_lines before line same = absurd (snoc_some before line same)
+last_adds (one_more {lines = ls} {d = d} other e h adds) before line same =
+    let parts = snoc_parts ls before other line same in
+    (d, subst (λ (xs : List Line). Declares xs d) parts.0 h, subst (λ (x : Line). Adds d x e) parts.1 adds)

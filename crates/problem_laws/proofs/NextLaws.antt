@@ -1,0 +1,17 @@
+-- The next line has one least fault at most, and none where it may join the lines before it.
+use Rattle.std.proofs.Common.{◌≡◌, ℕ, List, [], ◌∷◌, ◌++◌, refl, subst}
+use Rattle.problem_reading.specs.declared.stop.TextKind.{TextKind}
+use Rattle.problem_reading.specs.Drafts.{Draft}
+use Rattle.problem_reading.specs.Faults.{IsLineFault}
+use Rattle.problem_reading.specs.Lines.{AreFaultless, IsNextFault}
+use Rattle.problem_reading.proofs.OneDraft.{declares_once, last_adds}
+use Rattle.problem_laws.proofs.LineLaws.{one_fault, never_both}
+
+pub one_next_fault : (lines : List (List ℕ)) (next : List ℕ) (k j : TextKind) → IsNextFault lines next k → IsNextFault lines next j → k ≡ j
+one_next_fault lines next k j h i =
+    one_fault i.0 next k j (subst (λ (d : Draft). IsLineFault d next k) (declares_once h.1 i.1 refl) h.2) i.2
+
+pub never_joins : (lines : List (List ℕ)) (next : List ℕ) (k : TextKind) → IsNextFault lines next k → AreFaultless (lines ++ next ∷ []) → ⊥
+never_joins lines next k fault all =
+    let end = last_adds all.1 lines next refl in
+    never_both end.0 next all.0 k end.2 (subst (λ (d : Draft). IsLineFault d next k) (declares_once fault.1 end.1 refl) fault.2)
