@@ -1,1 +1,3 @@
+pub mod HasOutcome
+pub mod HasReading
 pub mod Sameness

@@ -32,10 +32,10 @@ numeral_counts : (w : List ℕ) → is_numeral w ≡ true → 1 ≤ value_after 
 numeral_counts [] h = absurd (cc)
 numeral_counts (b ∷ w) h = omega (arith, digit_first b w h, value_grows (0 * 10 + (b - 48)) w)
 
--- an agent's line has a name and counts
-abbrev FormOk : Form → Type 0
+-- an agent's line has a name and counts, and an atoms line has the words of name tokens
+abbrev pub FormOk : Form → Type 0
 FormOk (belief name times ts) = (1 ≤ times) × (is_plain_name name ≡ true)
-FormOk (declaration names) = Unit {0}
+FormOk (declaration names) = (ts : List Lexeme) × (names ≡ words_of ts) × (list_all is_name_token ts ≡ true)
 FormOk (condition ts) = Unit {0}
 FormOk (query ts) = Unit {0}
 FormOk blank = Unit {0}
@@ -66,10 +66,16 @@ agent_ok [] = tt
 agent_ok (word w ∷ ts) = ok_if (is_plain_name w) _ _ (λ e. times_ok w ts e) tt
 agent_ok (t ∷ ts) = tt
 
-atoms_ok : (ts : List Lexeme) → FormOk (atoms_form ts)
-atoms_ok ts = ok_if (nat_lt 0 (length ts) && list_all is_name_token ts) (declaration (words_of ts)) unknown (λ _. tt) tt
+second_true : (a b : Bool) → (a && b) ≡ true → b ≡ true
+second_true true b h = h
+second_true false b h = absurd (cc)
 
-form_ok : (ts : List Lexeme) → FormOk (form_of ts)
+atoms_ok : (ts : List Lexeme) → FormOk (atoms_form ts)
+atoms_ok ts =
+    ok_if (nat_lt 0 (length ts) && list_all is_name_token ts) (declaration (words_of ts)) unknown
+    (λ e. (ts, refl, second_true (nat_lt 0 (length ts)) (list_all is_name_token ts) e)) tt
+
+pub form_ok : (ts : List Lexeme) → FormOk (form_of ts)
 form_ok [] = tt
 form_ok (word w ∷ ts) =
     ok_if (bytes_eq w (codes "atoms")) _ _ (λ _. atoms_ok ts)

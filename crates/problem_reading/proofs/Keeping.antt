@@ -13,13 +13,13 @@ use Rattle.problem_reading.specs.Drafts.{Draft}
 use Rattle.problem_reading.specs.Fitting.{FitsBelief}
 use Rattle.problem_reading.specs.Kept.{IsKept}
 
-one_more : {X : Type 0} (P : X → Type 0) (xs : List X) (x : X) → All P xs → P x → All P (xs ++ x ∷ [])
+pub one_more : {X : Type 0} (P : X → Type 0) (xs : List X) (x : X) → All P xs → P x → All P (xs ++ x ∷ [])
 one_more P xs x all here = All-append P xs (x ∷ []) all (All-cons P x [] here (All-nil P))
 
-sum_more : {X : Type 0} (f : X → ℕ) (xs : List X) (x : X) → sum_by f (xs ++ x ∷ []) ≡ sum_by f xs + f x
+pub sum_more : {X : Type 0} (f : X → ℕ) (xs : List X) (x : X) → sum_by f (xs ++ x ∷ []) ≡ sum_by f xs + f x
 sum_more f xs x = sum_by-append f xs (x ∷ []) ∙ omega (arith, sum_by-cons f x [])
 
-size_more : {X : Type 0} (xs : List X) (x : X) → length (xs ++ x ∷ []) ≡ length xs + 1
+pub size_more : {X : Type 0} (xs : List X) (x : X) → length (xs ++ x ∷ []) ≡ length xs + 1
 size_more xs x = length-append xs (x ∷ []) ∙ omega arith
 
 pub kept_belief : (d : Draft) (agent : Agent) (own others repeats : ℕ) → FitsBelief d agent → IsKept d.atoms d.constraint d.agents d.asks own others repeats →

@@ -3,43 +3,26 @@ use Rattle.std.specs.List.{list_any}
 use Rattle.std.proofs.lemmas.Result.{IfErr-weaker}
 use Rattle.line_tokens.specs.Bytes.{is_bad}
 use Rattle.line_tokens.specs.Lexemes.{lexeme_of, lexemes_of}
-use Rattle.problem_lines.specs.Forms.{Form, blank, declaration, condition, belief, query, unknown, form_of}
+use Rattle.problem_lines.specs.Forms.{form_of}
 use Rattle.problem_lines.specs.Lines.{content_of}
 use Rattle.problem_reading.specs.declared.stop.LineStop.{LineStop}
 use Rattle.problem_reading.specs.declared.stop.LineStop.TheVariants.{Fault, NoMemory}
-use Rattle.problem_reading.specs.declared.stop.TextKind.TheVariants.{BadByte, BadLine, BadForm, UnknownAtom, Reserved, Twice, TooMany, TooDeep, NoAtoms, NoAgent}
 use Rattle.problem_reading.specs.Drafts.{Draft}
-use Rattle.problem_reading.specs.Faults.{IsFormFault, line_form}
+use Rattle.problem_reading.specs.Faults.{line_form}
 use Rattle.problem_reading.specs.Stops.{IsFormStop, IsLineStop}
 use Rattle.problem_reading.specs.Views.{draft_of}
+use Rattle.problem_reading.proofs.LineFaults.{fault_of_form}
 use Rattle.problem_reading.proofs.judging.judge.Goals as goal
 
 not_true : (b : Bool) → (IsTrue b → ⊥) → b ≡ false
 not_true true h = absurd (h refl)
 not_true false h = refl
 
-no_bad_byte : (d : Draft) (form : Form) → IsFormFault d form BadByte → ⊥
-no_bad_byte d blank h = h
-no_bad_byte d unknown h = absurd (cc)
-no_bad_byte d (declaration names) h = h
-no_bad_byte d (condition ts) h = h
-no_bad_byte d (belief name times ts) h = h
-no_bad_byte d (query ts) h = h
-
 -- what stops a line's form stops the line, which has no bad byte
 line_stop : (d : Draft) (line : List ℕ) → list_any is_bad (content_of line) ≡ false → (stop : LineStop) →
     IsFormStop d (line_form line) stop → IsLineStop d line stop
 line_stop d line good NoMemory h = tt
-line_stop d line good (Fault BadByte) h = absurd (no_bad_byte d (line_form line) h)
-line_stop d line good (Fault BadLine) h = (good, h)
-line_stop d line good (Fault BadForm) h = (good, h)
-line_stop d line good (Fault UnknownAtom) h = (good, h)
-line_stop d line good (Fault Reserved) h = (good, h)
-line_stop d line good (Fault Twice) h = (good, h)
-line_stop d line good (Fault TooMany) h = (good, h)
-line_stop d line good (Fault TooDeep) h = (good, h)
-line_stop d line good (Fault NoAtoms) h = (good, h)
-line_stop d line good (Fault NoAgent) h = (good, h)
+line_stop d line good (Fault kind) h = fault_of_form d line kind good h
 
 pub returns-in-Some-clause-stop : goal.returns-in-Some-clause-stop
 returns-in-Some-clause-stop c =
