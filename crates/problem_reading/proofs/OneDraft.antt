@@ -11,11 +11,11 @@ adds_once d line e c h i = h.2 ∙ ap (after d) (one_said d line h.0 i.0 h.1 i.1
 abbrev Line : Type 0
 Line = List ℕ
 
-pub snoc_some : (xs : List Line) (x : Line) → [] ≡ xs ++ x ∷ [] → ⊥
+snoc_some : (xs : List Line) (x : Line) → [] ≡ xs ++ x ∷ [] → ⊥
 snoc_some [] x e = absurd (cc)
 snoc_some (y ∷ xs) x e = absurd (cc)
 
-heads : (x y : Line) (xs ys : List Line) → x ∷ xs ≡ y ∷ ys → (x ≡ y) × (xs ≡ ys)
+pub heads : (x y : Line) (xs ys : List Line) → x ∷ xs ≡ y ∷ ys → (x ≡ y) × (xs ≡ ys)
 heads x y xs ys e = (cc, cc)
 
 -- lists that end in one element have the same elements
