@@ -17,6 +17,5 @@ mod text;
 mod writing;
 
 pub use reading::Reading;
-pub use said::Said;
 pub use stop::{TextFault, TextKind, TextStop};
 pub use text::read_problem;
