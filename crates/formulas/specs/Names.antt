@@ -13,9 +13,13 @@ abbrev pub is_plain_name : List ℕ → Bool
 is_plain_name [] = false
 is_plain_name (first ∷ rest) = not (is_ascii_digit first) && list_all is_word_byte (first ∷ rest)
 
--- such a word of at most 64 bytes
+-- the most bytes of a name
+abbrev pub name_limit : ℕ
+name_limit = 64
+
+-- such a word of at most so many bytes
 abbrev pub is_legal : List ℕ → Bool
-is_legal name = is_plain_name name && nat_le (length name) 64
+is_legal name = is_plain_name name && nat_le (length name) name_limit
 
 -- the words of the two constants
 abbrev pub is_reserved : List ℕ → Bool

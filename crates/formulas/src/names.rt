@@ -8,6 +8,9 @@ use indexmap::IndexSet;
 use std::alloc::Global;
 use std::marker::Model;
 
+/// The most bytes that the name of an atom or an agent has.
+const NAME_LIMIT: usize = 64;
+
 /// The names of the atoms, seen as the list of their bytes in order of number.
 ///
 /// There are at most 32, each is a name, and no two are the same.
@@ -120,5 +123,5 @@ pub fn is_reserved(bytes: &[u8]) -> bool
 pub fn is_name(bytes: &[u8]) -> bool
     ensures { result ≡ is_name bytes.now }
 {
-    is_plain_name(bytes) && bytes.len() <= 64 && !is_reserved(bytes)
+    is_plain_name(bytes) && bytes.len() <= NAME_LIMIT && !is_reserved(bytes)
 }
