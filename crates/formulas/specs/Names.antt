@@ -34,6 +34,10 @@ abbrev pub are_distinct : List (List ℕ) → Bool
 are_distinct [] = true
 are_distinct (name ∷ names) = not (list_any (bytes_eq name) names) && are_distinct names
 
+-- the most atoms that are named
+abbrev pub atom_limit : ℕ
+atom_limit = 32
+
 -- distinct names, in order, as those of the atoms and those of the agents
 abbrev pub are_names : List (List ℕ) → Bool
 are_names names = list_all is_name names && are_distinct names
