@@ -70,10 +70,10 @@ problem_command words before now read text (refused_words none unread two said) 
 problem_command words before now read text (of_command (Merge d a) of row) = (Merge d a, of, tt)
 
 end_of : (words : List (List ℕ)) (before now : Option (List ℕ)) (read : List ℕ) (status : ℕ) (text : List ℕ)
-    → Answers words before now read status text → length read ≤ most_bytes → status ≢ 2 → IsAtEnd now
-end_of words before now read s text (refused_words none unread two said) short other = absurd (other two)
-end_of words before now read s text (of_command (Merge d a) of (too_long long status said)) short other = absurd (omega arith)
-end_of words before now read s text (of_command (Merge d a) of (of_text end few row)) short other = end
+    → Answers words before now read status text → length read ≤ most_bytes → IsProblemCommand words → IsAtEnd now
+end_of words before now read s text (refused_words none unread two said) short asks = absurd (none asks.0 asks.1)
+end_of words before now read s text (of_command (Merge d a) of (too_long long status said)) short asks = absurd (omega arith)
+end_of words before now read s text (of_command (Merge d a) of (of_text end few row)) short asks = end
 
 -- the same, of a whole run
 pub refused_exact : (words : List (List ℕ)) (before now : Option (List ℕ)) (room_before room_now status : ℕ) (text : List ℕ)
@@ -99,6 +99,6 @@ too_long_exact words before now room_before room_now status text answered =
 -- a text that is not too long was read to its end
 pub answered_at_end : (words : List (List ℕ)) (before now : Option (List ℕ)) (room_before room_now status : ℕ) (text : List ℕ)
     → Answered (Answers words) before now room_before room_now status text
-    → room_before - room_now ≤ most_bytes → status ≢ 2 → IsAtEnd now
-answered_at_end words before now room_before room_now status text answered short other =
-    end_of words before now answered.read status text answered.answers (omega (arith, answered.gave.count)) other
+    → IsProblemCommand words → room_before - room_now ≤ most_bytes → IsAtEnd now
+answered_at_end words before now room_before room_now status text answered asks short =
+    end_of words before now answered.read status text answered.answers (omega (arith, answered.gave.count)) asks

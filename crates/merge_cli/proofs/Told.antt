@@ -1,5 +1,5 @@
 -- What a run answers where its source tells its bytes.
-use Rattle.std.proofs.Common.{◌≡◌, ◌<◌, ◌≤◌, ℕ, List, ◌++◌, length, arith, subst, sym, ap, ◌∙◌, refl, append-nil, length-append, inl, inr}
+use Rattle.std.proofs.Common.{◌≡◌, ◌≢◌, ◌<◌, ◌≤◌, ℕ, List, ◌++◌, length, arith, subst, sym, ap, ◌∙◌, refl, append-nil, length-append, inl, inr}
 use Rattle.std.specs.Prelude.{◌⊎◌, Option, Some, None, slice_index}
 use Rattle.std.specs.Io.KnownBytes.{Consumes, IsAtEnd}
 use Rattle.merge_model.specs.declared.operator.DistanceName.{DistanceName}
@@ -7,9 +7,12 @@ use Rattle.merge_model.specs.declared.operator.DistanceName.TheVariants.{Drastic
 use Rattle.merge_model.specs.declared.operator.AggregatorName.{AggregatorName}
 use Rattle.merge_model.specs.declared.operator.AggregatorName.TheVariants.{Sum, Max, Leximax}
 use Rattle.merge_model.specs.declared.problem.Problem.{Problem}
+use Rattle.merge_model.specs.Answers.{profile_of}
+use Rattle.merge_model.specs.Merging.{LacksModel}
 use Rattle.problem_reading.specs.declared.stop.TextFault.{TextFault}
 use Rattle.problem_reading.specs.Spelling.{Spelled, FirstFault}
 use Rattle.problem_laws.proofs.TextLaws.{spelled_or_faulty}
+use Rattle.merge_cli.proofs.Problems.{named_has, right_lacks_none}
 use Rattle.merge_cli.proofs.SameProblems.{equal_problems, equal_refusals}
 use Rattle.merge_cli.specs.declared.forms.Form.{Form}
 use Rattle.merge_cli.specs.declared.forms.Form.TheVariants.{Merge}
@@ -92,6 +95,16 @@ module _ (d : DistanceName) (a : AggregatorName) (before now : Option (List ℕ)
   row_lacking s text p (of_text end short (of_problem q is few (merged status reports))) spelled eight = absurd (omega arith)
   row_lacking s text p (of_text end short (of_problem q is few (inconsistent status reports))) spelled eight =
       let P : Problem → Type 0 = λ r. ReportsLack d a r text in subst P (equal_problems bytes q p is spelled) reports
+
+  pub row_lacks : (status : ℕ) (text : List ℕ) (problem : Problem)
+      → MergeAnswers d a before now bytes status text → Spelled bytes problem → status ≡ 8 → LacksModel (profile_of problem)
+  row_lacks s text p row spelled eight =
+      let reports = row_lacking s text p row spelled eight in named_has p reports.answer reports.named
+
+  pub row_lacking_not_merged : (status : ℕ) (text : List ℕ) (problem : Problem)
+      → MergeAnswers d a before now bytes status text → Spelled bytes problem → LacksModel (profile_of problem) → status ≢ 0
+  row_lacking_not_merged s text p row spelled lacks = λ zero_status.
+      let reports = row_merged s text p row spelled zero_status in right_lacks_none d a p reports.answer reports.right lacks
 
   pub row_refused : (status : ℕ) (text : List ℕ) (fault : TextFault)
       → MergeAnswers d a before now bytes status text → FirstFault bytes fault → length bytes ≤ most_bytes

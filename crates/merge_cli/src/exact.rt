@@ -36,7 +36,8 @@ pub fn too_long_is_exact()
 {}
 
 /// A problem whose constraint or one of whose bases has no model is never merged, and only such a
-/// problem is said to lack a model.
+/// problem is said to lack a model. `run` says so of bytes that are told; this is said of the table,
+/// and so also of what was read from a source that tells nothing.
 pub fn lacking_is_exact()
     ensures only { (distance : DistanceName) (aggregator : AggregatorName) (problem : Problem)
         (text : List ℕ) → ProblemAnswers distance aggregator problem 8 text

@@ -1,6 +1,6 @@
 use Rattle.std.proofs.Common.{inl, inr}
 use Rattle.merge_cli.proofs.Laws.{no_stop, refused_exact, too_long_exact, answered_at_end}
-use Rattle.merge_cli.proofs.Told.{told_row, row_merged, row_lacking, row_spelled, row_not_built, row_refused, row_refused_only}
+use Rattle.merge_cli.proofs.Told.{told_row, row_merged, row_lacking, row_lacks, row_lacking_not_merged, row_spelled, row_not_built, row_refused, row_refused_only}
 use Rattle.merge_cli.proofs.top.run.Goals as goal
 
 pub returns-in-Ok-send_all-clause-read_fault : goal.returns-in-Ok-send_all-clause-read_fault
@@ -30,6 +30,16 @@ returns-in-Ok-send_all-clause-lacks_model g c =
     λ bytes d a told of problem spelled status.
     row_lacking d a _ _ bytes _ _ problem (told_row _ _ _ _ _ _ _ c.in-Ok.ensures.ok bytes d a told of) spelled status
 
+pub returns-in-Ok-send_all-clause-lacking : goal.returns-in-Ok-send_all-clause-lacking
+returns-in-Ok-send_all-clause-lacking g c =
+    λ bytes d a told of problem spelled status.
+    row_lacks d a _ _ bytes _ _ problem (told_row _ _ _ _ _ _ _ c.in-Ok.ensures.ok bytes d a told of) spelled status
+
+pub returns-in-Ok-send_all-clause-lacking_not_merged : goal.returns-in-Ok-send_all-clause-lacking_not_merged
+returns-in-Ok-send_all-clause-lacking_not_merged g c =
+    λ bytes d a told of problem spelled lacks.
+    row_lacking_not_merged d a _ _ bytes _ _ problem (told_row _ _ _ _ _ _ _ c.in-Ok.ensures.ok bytes d a told of) spelled lacks
+
 pub returns-in-Ok-send_all-clause-spelled : goal.returns-in-Ok-send_all-clause-spelled
 returns-in-Ok-send_all-clause-spelled g c =
     λ bytes d a told of problem spelled few four five six.
@@ -49,4 +59,7 @@ returns-in-Ok-send_all-clause-refused_only g c =
     λ bytes d a told of one few. row_refused_only d a _ _ bytes _ _ (told_row _ _ _ _ _ _ _ c.in-Ok.ensures.ok bytes d a told of) one few
 
 pub returns-in-Ok-send_all-clause-at_end : goal.returns-in-Ok-send_all-clause-at_end
-returns-in-Ok-send_all-clause-at_end g c = λ few two four five six. answered_at_end _ _ _ _ _ _ _ c.in-Ok.ensures.ok few two
+returns-in-Ok-send_all-clause-at_end g c = λ asks short four six. answered_at_end _ _ _ _ _ _ _ c.in-Ok.ensures.ok asks short
+
+pub returns-in-Err-clause-at_end : goal.returns-in-Err-clause-at_end
+returns-in-Err-clause-at_end g c = λ asks short four six. answered_at_end _ _ _ _ _ _ _ c.in-Ok.ensures.ok asks short
