@@ -18,8 +18,11 @@ use totalizer::Unary;
 /// the distance from the shared literals to the own ones.
 #[derive(Drop)]
 pub struct AgentCopy {
+    /// The own literals, one for each shared one, in order.
     pub own: Vec<Lit>,
+    /// True exactly where the own literals satisfy the base.
     pub root: Lit,
+    /// Counts the distance from the shared literals to the own ones.
     pub away: Unary,
 }
 

@@ -32,7 +32,7 @@ fn add_difference(
     Ok(())
 }
 
-// A fresh variable for each place, true exactly where the literals there differ.
+/// A fresh variable for each place, true exactly where the literals there differ.
 pub fn add_differences(
     clauses: &mut ClauseList,
     shared: &[Lit],
@@ -53,7 +53,7 @@ pub fn add_differences(
     Ok(())
 }
 
-// The variables after one.
+/// The variables after one.
 #[tactic(auto, using(crate::proofs::Steps::fresh_step))]
 pub fn vars_after(alloc: Global, last: u32, count: usize) -> Result<Vec<u32>, NoMemory>
     requires { last + count ≤ 2 ^ 31 }

@@ -67,7 +67,7 @@ impl Derivations {
         self.main
     }
 
-    /// Appends a step and answers its number.
+    /// Appends a step and answers its number. `NoMemory` for want of memory: nothing is appended then.
     pub fn append(&mut self, step: Step) -> Result<u64, NoMemory>
         requires { InRange self.old.vars step.clause }
         ensures number { IfOk result (λ k. k ≡ length (known_of self.old)) }
@@ -93,8 +93,8 @@ impl Derivations {
         self.rows[(number - self.main) as usize].kind
     }
 
-    /// The step of a number, copied. Where the steps follow, and are no more than a list can hold, `write_step`
-    /// takes it.
+    /// The step of a number, copied; `NoMemory` for want of memory. Where the steps follow, and there are no more
+    /// clauses than a list can hold, `write_step` takes it.
     pub fn step(&self, alloc: Global, number: u64) -> Result<Step, NoMemory>
         requires main { length self.now.main ≤ number }
         requires known { number < length (known_of self.now) }

@@ -22,6 +22,7 @@ pub enum StepReadStop {
     TooBig,
     /// It is a step line without such a literal whose clause literals are not sorted and distinct.
     Unsorted,
+    /// Memory was refused.
     NoMemory,
 }
 

@@ -9,6 +9,7 @@ use std::alloc::Global;
 /// Makes the formula.
 #[derive(Drop)]
 pub struct Formulas {
+    /// Where the parts of formulas are put.
     pub alloc: Global,
 }
 

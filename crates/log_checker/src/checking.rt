@@ -21,6 +21,7 @@ pub enum StepStop {
     NoPivot(u64),
     /// The chain ends in another clause than is written.
     OtherClause,
+    /// Memory was refused.
     NoMemory,
 }
 

@@ -51,7 +51,7 @@ pub fn merge_plainly<D: Distance, A: Aggregator>(
     merged(alloc, distance, aggregator, problem, &walk)
 }
 
-/// The same by the names of the distance and the aggregator.
+/// The same by the names of the distance and the aggregator; `NoMemory` for want of memory.
 pub fn merge_named(
     alloc: Global,
     distance: DistanceName,

@@ -168,6 +168,7 @@ fn fresh_many(alloc: Global, clauses: &mut ClauseList, n: usize) -> Result<Vec<u
 
 /// The sum of two counters: appends clauses over as many fresh variables as both have outputs, and answers the
 /// counter of these.
+/// After `NoMemory` the list has grown by some variables and some of these clauses, from the first on.
 pub fn plus(
     alloc: Global,
     clauses: &mut ClauseList,
@@ -213,7 +214,8 @@ fn total_of(alloc: Global, clauses: &mut ClauseList, parts: &[Unary]) -> Result<
 }
 
 /// The sum of counters: of one, the counter itself, and of more, the sum of the totals of the first half, rounded
-/// down, and of the rest. A part that stands twice counts twice.
+/// down, and of the rest. A part that stands twice counts twice. After `NoMemory` the list has grown by some
+/// variables and some of the clauses that are due, from the first on.
 pub fn total(alloc: Global, clauses: &mut ClauseList, parts: &[Unary]) -> Result<Unary, NoMemory>
     requires some { 1 ≤ length parts.now }
     requires parts_in { AllVarsWithin clauses.old.vars parts.now }

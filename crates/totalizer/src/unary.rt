@@ -26,7 +26,7 @@ impl Model for Unary {
 }
 
 impl Unary {
-    // A counter with these outputs.
+    /// A counter with these outputs.
     pub fn from_outputs(outputs: Vec<u32>) -> Unary
         requires some { 1 ≤ length outputs.items }
         requires few { length outputs.items ≤ 2 ^ 31 }
@@ -66,7 +66,7 @@ impl Unary {
         self.outputs.as_slice()
     }
 
-    /// The same counter once more.
+    /// The same counter once more; `NoMemory` for want of memory.
     pub fn copy(&self) -> Result<Unary, NoMemory>
         ensures { IfOk result (λ r. r ≡ self.now) }
     {
@@ -76,7 +76,8 @@ impl Unary {
     }
 }
 
-/// The counter of one variable: its value is 1 where the variable is true, and 0 elsewhere.
+/// The counter of one variable: its value is 1 where the variable is true, and 0 elsewhere. `NoMemory` for want
+/// of memory.
 pub fn leaf(alloc: Global, var: u32) -> Result<Unary, NoMemory>
     requires { 1 ≤ var }
     ensures outputs { IfOk result (λ r. r ≡ var ∷ []) }
@@ -88,7 +89,7 @@ pub fn leaf(alloc: Global, var: u32) -> Result<Unary, NoMemory>
     Ok(Unary { outputs })
 }
 
-/// The counter of each variable alone, in order.
+/// The counter of each variable alone, in order; `NoMemory` for want of memory.
 pub fn leaves(alloc: Global, vars: &[u32]) -> Result<Vec<Unary>, NoMemory>
     requires { All (λ v. 1 ≤ v) vars.now }
     ensures { IfOk result (λ parts. parts.items ≡ leaves vars.now) }
