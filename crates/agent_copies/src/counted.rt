@@ -18,6 +18,7 @@ use totalizer::{Unary, either, leaves, total};
 /// variables and outputs. The law `counts`, below the method, says that the clauses hold in exactly one extension,
 /// and that there the outputs, which are fresh, count the distance.
 pub trait Counted: Distance {
+    /// What a counter takes after so many variables.
     ghost due: { Self → ℕ → List Literal → List Literal → Due };
 
     /// The counter of the distance of the values of `shared` from those of `own`, 1 to 64 literals each: appends
@@ -41,6 +42,7 @@ pub trait Counted: Distance {
         ensures list { OnOk result (clauses.new.list ≡ clauses.old.list ++ map sorted_clause (due self.now clauses.old.vars shared.now own.now).clauses) }
         ensures err { OnErr result (Grew clauses.old clauses.new (due self.now clauses.old.vars shared.now own.now).clauses) };
 
+    /// What a counter takes counts the distance.
     ghost counts: { (d : Self) (v : ℕ) (shared own : List Literal) → length shared ≡ length own → 1 ≤ length shared → length shared ≤ 64 → InRange v shared → InRange v own →
         IsCounter v shared own (Self.dist d) (Self.most d (length shared)) (due d v shared own) };
 }

@@ -3,8 +3,9 @@
 ghost use Rattle.std.specs.Prelude.{◌≡◌, ℕ, ◌+◌, ◌<◌, ◌≤◌, ◌^◌, [], ◌∷◌, ◌++◌, IfOk, OnOk, OnErr, length, map};
 ghost use Rattle.clause_store.specs.Lits.{sorted_clause, IsWithin, InRange};
 ghost use Rattle.clause_store.specs.Grew.{Grew};
+ghost use Rattle.totalizer.specs.Counter.{fresh_vars};
 ghost use Rattle.totalizer.specs.Joined.{joined};
-ghost use Rattle.agent_copies.specs.Differences.{difference_clauses, difference_at, fresh_vars};
+ghost use Rattle.agent_copies.specs.Differences.{difference_clauses, difference_at};
 
 use clause_store::{ClauseList, Lit};
 use edge::NoMemory;
@@ -32,7 +33,7 @@ fn add_difference(
     Ok(())
 }
 
-// A fresh variable for each place, true exactly where the literals there differ.
+/// A fresh variable for each place, true exactly where the literals there differ.
 pub fn add_differences(
     clauses: &mut ClauseList,
     shared: &[Lit],
@@ -53,8 +54,8 @@ pub fn add_differences(
     Ok(())
 }
 
-// The variables after one.
-#[tactic(auto, using(crate::proofs::Steps::fresh_step))]
+/// The variables after one.
+#[tactic(auto, using(totalizer::proofs::FreshVars::fresh_vars_next))]
 pub fn vars_after(alloc: Global, last: u32, count: usize) -> Result<Vec<u32>, NoMemory>
     requires { last + count ≤ 2 ^ 31 }
     ensures { IfOk result (λ vars. vars.items ≡ fresh_vars last count) }

@@ -4,6 +4,7 @@ pub mod Searches
 pub mod Sorts
 pub mod Merges
 pub mod Cuts
+pub mod Numbered
 pub mod Truths
 pub mod Blocks
 pub mod Grows

@@ -24,7 +24,7 @@ impl Model for Assignment {
 }
 
 impl Assignment {
-    /// All false, over the variables from 1 to `vars`.
+    /// All false, over the variables from 1 to `vars`; `NoMemory` for want of memory.
     pub fn new(alloc: Global, vars: u32) -> Result<Assignment, NoMemory>
         ensures { IfOk result (λ made. made ≡ replicate vars false) }
     {

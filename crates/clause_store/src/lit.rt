@@ -12,7 +12,9 @@ use std::cmp::Ordering;
 /// A variable with a sign. Variables count from 1; the calls that take literals require it.
 #[derive(Clone, Copy, Debug, Default, PartialEq, Eq)]
 pub struct Lit {
+    /// The variable, counted from 1.
     pub var: u32,
+    /// Whether the literal is true where its variable is.
     pub positive: bool,
 }
 

@@ -8,7 +8,7 @@ ghost use Rattle.clause_translation.specs.Definition.{top_clauses, bottom_clause
 use clause_store::{ClauseList, Lit};
 use edge::NoMemory;
 
-// A node that is true.
+/// A node that is true.
 pub fn top_node(clauses: &mut ClauseList) -> Result<Lit, NoMemory>
     requires room { clauses.old.vars < 2 ^ 31 }
     ensures node { IfOk result (λ v. v ≡ positive_lit (clauses.old.vars + 1)) }
@@ -21,7 +21,7 @@ pub fn top_node(clauses: &mut ClauseList) -> Result<Lit, NoMemory>
     Ok(node)
 }
 
-// A node that is false.
+/// A node that is false.
 pub fn bottom_node(clauses: &mut ClauseList) -> Result<Lit, NoMemory>
     requires room { clauses.old.vars < 2 ^ 31 }
     ensures node { IfOk result (λ v. v ≡ positive_lit (clauses.old.vars + 1)) }
@@ -34,7 +34,7 @@ pub fn bottom_node(clauses: &mut ClauseList) -> Result<Lit, NoMemory>
     Ok(node)
 }
 
-// A node with the value of a literal.
+/// A node with the value of a literal.
 #[tactic(auto, using(clause_store::proofs::Grows::grew_none, clause_store::proofs::Grows::grew_one))]
 pub fn atom_node(clauses: &mut ClauseList, atom: Lit) -> Result<Lit, NoMemory>
     requires room { clauses.old.vars < 2 ^ 31 }
@@ -50,7 +50,7 @@ pub fn atom_node(clauses: &mut ClauseList, atom: Lit) -> Result<Lit, NoMemory>
     Ok(node)
 }
 
-// A negation.
+/// A negation.
 #[tactic(auto, using(clause_store::proofs::Grows::grew_none, clause_store::proofs::Grows::grew_one))]
 pub fn not_node(clauses: &mut ClauseList, part: Lit) -> Result<Lit, NoMemory>
     requires room { clauses.old.vars < 2 ^ 31 }
@@ -66,7 +66,7 @@ pub fn not_node(clauses: &mut ClauseList, part: Lit) -> Result<Lit, NoMemory>
     Ok(node)
 }
 
-// A conjunction.
+/// A conjunction.
 #[tactic(auto, using(clause_store::proofs::Grows::grew_none, clause_store::proofs::Grows::grew_one, clause_store::proofs::Grows::grew_two))]
 pub fn and_node(clauses: &mut ClauseList, left: Lit, right: Lit) -> Result<Lit, NoMemory>
     requires room { clauses.old.vars < 2 ^ 31 }
@@ -84,7 +84,7 @@ pub fn and_node(clauses: &mut ClauseList, left: Lit, right: Lit) -> Result<Lit, 
     Ok(node)
 }
 
-// A disjunction.
+/// A disjunction.
 #[tactic(auto, using(clause_store::proofs::Grows::grew_none, clause_store::proofs::Grows::grew_one, clause_store::proofs::Grows::grew_two))]
 pub fn or_node(clauses: &mut ClauseList, left: Lit, right: Lit) -> Result<Lit, NoMemory>
     requires room { clauses.old.vars < 2 ^ 31 }
@@ -102,7 +102,7 @@ pub fn or_node(clauses: &mut ClauseList, left: Lit, right: Lit) -> Result<Lit, N
     Ok(node)
 }
 
-// An implication.
+/// An implication.
 #[tactic(auto, using(clause_store::proofs::Grows::grew_none, clause_store::proofs::Grows::grew_one, clause_store::proofs::Grows::grew_two))]
 pub fn implies_node(clauses: &mut ClauseList, left: Lit, right: Lit) -> Result<Lit, NoMemory>
     requires room { clauses.old.vars < 2 ^ 31 }
@@ -120,7 +120,7 @@ pub fn implies_node(clauses: &mut ClauseList, left: Lit, right: Lit) -> Result<L
     Ok(node)
 }
 
-// An equivalence.
+/// An equivalence.
 #[tactic(auto, using(clause_store::proofs::Grows::grew_none, clause_store::proofs::Grows::grew_one, clause_store::proofs::Grows::grew_two, clause_store::proofs::Grows::grew_three))]
 pub fn iff_node(clauses: &mut ClauseList, left: Lit, right: Lit) -> Result<Lit, NoMemory>
     requires room { clauses.old.vars < 2 ^ 31 }

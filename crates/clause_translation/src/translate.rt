@@ -56,6 +56,7 @@ fn define_nodes(clauses: &mut ClauseList, formula: &Formula, atoms: &[Lit]) -> R
 
 /// Defines the formula: appends clauses over fresh variables, one for each node, children first, and answers the
 /// root, the last of these variables. Atom `k` of the formula has the literal `atoms[k]`.
+/// After `NoMemory` the list has grown by some variables and some of these clauses, from the first on.
 pub fn define(clauses: &mut ClauseList, formula: &Formula, atoms: &[Lit]) -> Result<Lit, NoMemory>
     requires few_nodes { nodes_of formula.now ≤ 4096 }
     requires room { clauses.old.vars + nodes_of formula.now ≤ 2 ^ 31 }

@@ -7,7 +7,9 @@ use std::marker::Model;
 /// A resolution of the running clause with the clause of a number, on a literal of the running clause.
 #[derive(Clone, Copy, Debug, Default, PartialEq, Eq)]
 pub struct Link {
+    /// The literal of the running clause; its negation is in the other one.
     pub pivot: Lit,
+    /// The number of the other clause.
     pub number: u64,
 }
 
@@ -27,12 +29,14 @@ impl Model for Chain {
 }
 
 impl Chain {
+    /// The chain of these links, in order.
     pub fn from_vec(links: Vec<Link>) -> Chain
         ensures { result ≡ links.items }
     {
         Chain { links }
     }
 
+    /// The links, in order, without copying.
     pub fn into_vec(self) -> Vec<Link>
         ensures { result.items ≡ self }
     {
@@ -40,6 +44,7 @@ impl Chain {
         links
     }
 
+    /// The links, in order.
     pub fn as_slice(&self) -> &[Link]
         ensures { result.now ≡ self.now }
     {
@@ -50,7 +55,9 @@ impl Chain {
 /// Whether the solver learned a step's clause or claims that it answers a question.
 #[derive(Clone, Copy, Debug, PartialEq, Eq)]
 pub enum StepKind {
+    /// The solver learned the clause.
     Learned,
+    /// The clause is claimed to answer a question.
     Claimed,
 }
 
@@ -58,8 +65,12 @@ pub enum StepKind {
 /// steps go on from there.
 #[derive(Drop)]
 pub struct Step {
+    /// Learned or claimed.
     pub kind: StepKind,
+    /// Where the links lead.
     pub clause: Clause,
+    /// The number of the clause where the links begin.
     pub first: u64,
+    /// The links, in the order in which they are taken.
     pub chain: Chain,
 }

@@ -29,7 +29,8 @@ impl Model for MemorySink {
 }
 
 impl MemorySink {
-    /// A sink with room for `room` bytes that takes at most `piece` bytes at a write.
+    /// A sink with room for `room` bytes that takes at most `piece` bytes at a write; `NoMemory` for
+    /// want of memory.
     pub fn new(alloc: Global, room: usize, piece: usize) -> Result<Self, NoMemory>
         requires { 0 < piece }
         ensures { IfOk result (λ s. s ≡ record { taken = []; room = room; piece = piece; faults = 0 }) }

@@ -10,6 +10,7 @@ use crate::{Failed, Sink};
 pub struct NullSink {}
 
 impl NullSink {
+    /// A sink that has taken nothing so far.
     pub fn new() -> Self {
         NullSink {}
     }

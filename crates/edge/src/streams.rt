@@ -29,6 +29,7 @@ impl<R> Model for StdSource<R> {
 }
 
 impl<R: Read> StdSource<R> {
+    /// A source over this reader, with no fault so far.
     pub fn new(input: R) -> Self
         ensures { result ≡ record { input = input; room = 2 ^ 40; faults = 0 } }
     {
@@ -86,6 +87,7 @@ impl<W> Model for StdSink<W> {
 }
 
 impl<W: Write> StdSink<W> {
+    /// A sink over this writer, with no fault so far.
     pub fn new(output: W) -> Self
         ensures { result ≡ record { output = output; faults = 0 } }
     {

@@ -54,6 +54,7 @@ impl Words {
         self.words.len()
     }
 
+    /// Whether there is no word.
     pub fn is_empty(&self) -> bool
         ensures { IsTrue result ↔ (self.now ≡ []) }
     {

@@ -46,7 +46,7 @@ fn symbol_of(token: Token, atoms: &Atoms) -> Symbol
     }
 }
 
-/// The symbols of tokens, over the names of the atoms.
+/// The symbols of tokens, over the names of the atoms; `NoMemory` for want of memory.
 pub fn symbols(alloc: Global, tokens: &[Token], atoms: &Atoms) -> Result<Vec<Symbol>, NoMemory>
     ensures { IfOk result (λ symbols. symbols.items ≡ symbols_of atoms.now (map lexeme_of tokens.now)) }
 {

@@ -8,6 +8,7 @@ mod merging;
 mod refusal;
 mod reply;
 mod report;
+/// The exit statuses.
 pub mod status;
 #[cfg(test)]
 mod tests;

@@ -23,7 +23,7 @@ fn word_of_kind(kind: TextKind) -> &'static str
     }
 }
 
-/// The text that names the first fault of a text.
+/// The text that names the first fault of a text; `NoMemory` for want of memory.
 pub fn refusal(alloc: Global, fault: TextFault) -> Result<Vec<u8>, NoMemory>
     ensures { IfOk result (λ text. text.items ≡ refusal_text fault) }
 {

@@ -6,7 +6,9 @@ use std::alloc::Global;
 /// A status with the text to send.
 #[derive(Debug, Drop)]
 pub struct Reply {
+    /// One of the constants of `status`.
     pub status: u8,
+    /// What is to be sent.
     pub text: Vec<u8>,
 }
 

@@ -18,6 +18,7 @@ use std::cmp::Ordering;
 /// each at most another's is no worse. `zero_least`: only the list of zeros is no worse than the list
 /// of zeros. `joined`: where two lists are each no worse than two others, they are so when joined.
 pub trait Aggregator {
+    /// The rank of a list of distances.
     ghost rank: { Self → List ℕ → List ℕ };
 
     /// The lexicographic order of the ranks of two lists of one length, which have 1 to 64 entries of
@@ -37,23 +38,32 @@ pub trait Aggregator {
         requires small { All (λ k. k ≤ 4096) full.now }
         ensures { IfOk result (λ ranked. ranked.items ≡ rank self.now full.now) };
 
+    /// Lists of one length have ranks of one length.
     ghost sized: { (a : Self) (u w : List ℕ) → length u ≡ length w → length (rank a u) ≡ length (rank a w) };
 
+    /// A permutation keeps the rank.
     ghost unordered: { (a : Self) (u w : List ℕ) → All (λ k. k ≤ 4096) u → u ≢ [] → IsPermutation u w → rank a u ≡ rank a w };
 
+    /// Where no entry is greater than its partner, the list is no worse.
     ghost monotone: { (a : Self) (u w : List ℕ) → All (λ k. k ≤ 4096) w → u ≢ [] → AllZip (λ j k. j ≤ k) u w → IsNoWorse (rank a) u w };
 
-    ghost zero_least: { (a : Self) (u : List ℕ) → All (λ k. k ≤ 4096) u → u ≢ [] → IsNoWorse (rank a) u (replicate (length u) 0) → u ≡ replicate (length u) 0 };
+    /// Only the zeros are no worse than the zeros.
+    ghost zero_least: { (a : Self) (u : List ℕ) → All (λ k. k ≤ 4096) u → u ≢ [] →
+        IsNoWorse (rank a) u (replicate (length u) 0) → u ≡ replicate (length u) 0 };
 
-    ghost joined: { (a : Self) (u w s t : List ℕ) → All (λ k. k ≤ 4096) (u ++ w ++ s ++ t) → u ≢ [] → s ≢ [] → length u ≡ length w → length s ≡ length t →
-        IsNoWorse (rank a) u w → IsNoWorse (rank a) s t → IsNoWorse (rank a) (u ++ s) (w ++ t) };
+    /// Where both parts are no worse, the joined list is no worse.
+    ghost joined: { (a : Self) (u w s t : List ℕ) → All (λ k. k ≤ 4096) (u ++ w ++ s ++ t) → u ≢ [] → s ≢ [] →
+        length u ≡ length w → length s ≡ length t → IsNoWorse (rank a) u w → IsNoWorse (rank a) s t →
+        IsNoWorse (rank a) (u ++ s) (w ++ t) };
 }
 
 /// An aggregator by which a better part makes the joined list better. The law says it by its
 /// contraposition: where the joined lists tie, both parts do.
 pub trait StrictAggregator: Aggregator {
-    ghost strict: { (a : Self) (u w s t : List ℕ) → All (λ k. k ≤ 4096) (u ++ w ++ s ++ t) → u ≢ [] → s ≢ [] → length u ≡ length w → length s ≡ length t →
-        IsNoWorse (Self.rank a) u w → IsNoWorse (Self.rank a) s t → IsNoWorse (Self.rank a) (w ++ t) (u ++ s) →
+    /// Where no part is worse and the joined lists tie, both parts tie.
+    ghost strict: { (a : Self) (u w s t : List ℕ) → All (λ k. k ≤ 4096) (u ++ w ++ s ++ t) → u ≢ [] → s ≢ [] →
+        length u ≡ length w → length s ≡ length t → IsNoWorse (Self.rank a) u w → IsNoWorse (Self.rank a) s t →
+        IsNoWorse (Self.rank a) (w ++ t) (u ++ s) →
         IsNoWorse (Self.rank a) w u × IsNoWorse (Self.rank a) t s };
 }
 

@@ -8,6 +8,7 @@ use formulas::Valuation;
 /// methods: a distance is symmetric, it is 0 exactly for equal valuations, and for 1 to 64 atoms it
 /// is at most `most`, which is from 1 to 4,096. No triangle inequality is asked.
 pub trait Distance {
+    /// The distance, of the lists of truth values.
     ghost dist: { Self → List Bool → List Bool → ℕ };
 
     /// The greatest distance of two valuations over so many atoms.
@@ -24,16 +25,22 @@ pub trait Distance {
         requires few { atoms ≤ 64 }
         ensures { result ≡ most self.now atoms };
 
+    /// The order of the two valuations does not matter.
     ghost symmetric: { (d : Self) (v w : List Bool) → length v ≡ length w → dist d v w ≡ dist d w v };
 
+    /// A valuation is at 0 from itself.
     ghost same: { (d : Self) (v : List Bool) → dist d v v ≡ 0 };
 
+    /// At 0 from each other are equal valuations alone.
     ghost apart: { (d : Self) (v w : List Bool) → length v ≡ length w → dist d v w ≡ 0 → v ≡ w };
 
+    /// No distance over 1 to 64 atoms is above `most`.
     ghost within: { (d : Self) (v w : List Bool) → length v ≡ length w → 1 ≤ length v → length v ≤ 64 → dist d v w ≤ most d (length v) };
 
+    /// `most` is at least 1 for 1 to 64 atoms.
     ghost some_most: { (d : Self) (n : ℕ) → 1 ≤ n → n ≤ 64 → 1 ≤ most d n };
 
+    /// `most` is at most 4,096 for 1 to 64 atoms.
     ghost bounded: { (d : Self) (n : ℕ) → 1 ≤ n → n ≤ 64 → most d n ≤ 4096 };
 }
 

@@ -15,6 +15,7 @@ pub struct Problem {
     pub agents: Sequence<Agent>,
     /// The queries, in order.
     pub asks: Sequence<Formula>,
+    /// That the parts keep the limits on a problem.
     pub ghost limits: { KeepsLimits atoms constraint agents asks },
 }
 

@@ -3,3 +3,4 @@ pub mod Kept
 pub mod LineChoice
 pub mod LineLaws
 pub mod TextLaws
+pub mod NextLaws

@@ -1,5 +1,5 @@
--- After the same lines a line adds one thing at most, or has one least fault at most, and never both.
-use Rattle.std.proofs.Common.{◌≡◌, ◌≤◌, ℕ, Bool, true, false, ◌⊎◌, List, [], ◌∷◌, ◌++◌, Some, if◌then◌else◌, refl, ap, sym, subst, ◌∙◌, inl, inr, arith}
+-- After the same lines a line has one least fault at most, and none where it adds something.
+use Rattle.std.proofs.Common.{◌≡◌, ◌≤◌, ℕ, Bool, true, false, ◌⊎◌, List, if◌then◌else◌, refl, ap, sym, subst, ◌∙◌, inl, inr, arith}
 use Rattle.std.specs.List.{list_any}
 use Rattle.formulas.specs.Formulas.{depth_of}
 use Rattle.formulas.specs.declared.formula.Formula.{Formula}
@@ -8,7 +8,6 @@ use Rattle.line_tokens.specs.Lexemes.{Lexeme}
 use Rattle.formula_grammar.specs.Readings.{IsSpelled, IsRead, IsTooDeep}
 use Rattle.formula_grammar.specs.Symbols.{is_unknown, most_open}
 use Rattle.formula_grammar.proofs.Complete.{one_formula}
-use Rattle.merge_model.specs.declared.agent.Agent.{Agent}
 use Rattle.problem_lines.specs.Lines.{content_of}
 use Rattle.problem_lines.specs.Forms.{Form, blank, declaration, condition, belief, query, unknown}
 use Rattle.problem_reading.specs.declared.said.Said.{Said}
@@ -17,46 +16,7 @@ use Rattle.problem_reading.specs.declared.stop.TextKind.{TextKind}
 use Rattle.problem_reading.specs.declared.stop.TextKind.TheVariants.{BadByte, BadLine, BadForm, UnknownAtom, Reserved, Twice, TooMany, TooDeep, NoAtoms, NoAgent}
 use Rattle.problem_reading.specs.Drafts.{Draft}
 use Rattle.problem_reading.specs.Faults.{IsFormulaFault, IsNameFault, IsFormFault, IsLineFault, line_form}
-use Rattle.problem_reading.specs.Saying.{IsSaid, Says, Adds, after}
-
--- what is declared after a line of a form
-abbrev Grows : Draft → Form → Draft → Type 0
-Grows d blank e = e ≡ d
-Grows d (declaration names) e = e ≡ record d { atoms = d.atoms ++ names }
-Grows d (condition ts) e = (f : Formula) × IsSpelled d.atoms ts f × (e ≡ record d { constraint = Some f })
-Grows d (belief name times ts) e =
-    (f : Formula) × IsSpelled d.atoms ts f × (e ≡ record d { agents = d.agents ++ record { name = name; times = times; base = f } ∷ [] })
-Grows d (query ts) e = (f : Formula) × IsSpelled d.atoms ts f × (e ≡ record d { asks = d.asks ++ f ∷ [] })
-Grows d unknown e = ⊥
-
-agent_is : (agent : Agent) (name : List ℕ) (times : ℕ) → agent.name ≡ name → agent.times ≡ times →
-    agent ≡ record { name = name; times = times; base = agent.base }
-agent_is agent name times e h =
-    let Named : List ℕ → Agent = λ n. record { name = n; times = agent.times; base = agent.base } in
-    let Timed : ℕ → Agent = λ n. record { name = name; times = n; base = agent.base } in
-    ap Named e ∙ ap Timed h
-
-grows : (d : Draft) (form : Form) (said : Said) → IsSaid d form said → Grows d form (after d said)
-grows d blank Nothing h = refl
-grows d (declaration names) (Names atoms) h = ap (λ xs. record d { atoms = xs }) h.3
-grows d (condition ts) (Condition f) h = (f, h.0.spelled, refl)
-grows d (belief name times ts) (Belief agent) h =
-    (agent.base, h.0.spelled, ap (λ a. record d { agents = d.agents ++ a ∷ [] }) (agent_is agent name times h.4 h.5))
-grows d (query ts) (Query f) h = (f, h.0.spelled, refl)
-grows d form said h = absurd h
-
-grows_once : (d : Draft) (form : Form) (e c : Draft) → Grows d form e → Grows d form c → e ≡ c
-grows_once d blank e c h i = h ∙ sym i
-grows_once d (declaration names) e c h i = h ∙ sym i
-grows_once d (condition ts) e c h i = h.2 ∙ ap (λ f. record d { constraint = Some f }) (one_formula h.1 i.1) ∙ sym i.2
-grows_once d (belief name times ts) e c h i =
-    h.2 ∙ ap (λ f. record d { agents = d.agents ++ record { name = name; times = times; base = f } ∷ [] }) (one_formula h.1 i.1) ∙ sym i.2
-grows_once d (query ts) e c h i = h.2 ∙ ap (λ f. record d { asks = d.asks ++ f ∷ [] }) (one_formula h.1 i.1) ∙ sym i.2
-grows_once d unknown e c h i = absurd h
-
-pub adds_once : (d : Draft) (line : List ℕ) (e c : Draft) → Adds d line e → Adds d line c → e ≡ c
-adds_once d line e c h i =
-    h.2 ∙ grows_once d (line_form line) _ _ (grows d (line_form line) h.0 h.1.said) (grows d (line_form line) i.0 i.1.said) ∙ sym i.2
+use Rattle.problem_reading.specs.Saying.{IsSaid, Says, Adds}
 
 clash : (b : Bool) → b ≡ true → b ≡ false → ⊥
 clash b h i = let both : true ≡ false = sym h ∙ i in absurd (cc)

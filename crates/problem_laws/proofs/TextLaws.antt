@@ -8,37 +8,11 @@ use Rattle.problem_reading.specs.Faults.{IsLineFault}
 use Rattle.problem_reading.specs.Saying.{Adds}
 use Rattle.problem_reading.specs.Spelling.{Declares, no_lines, one_more, IsProblemOf, IsEndFault, IsFirstLineFault, FirstFault, Spelled}
 use Rattle.problem_laws.specs.Sameness.{SameFault, SameProblem}
-use Rattle.problem_laws.proofs.LineLaws.{adds_once, one_fault, never_both}
+use Rattle.problem_reading.proofs.OneDraft.{heads, snoc_parts, declares_once}
+use Rattle.problem_laws.proofs.LineLaws.{one_fault, never_both}
 
 abbrev Line : Type 0
 Line = List ℕ
-
-snoc_some : (xs : List Line) (x : Line) → [] ≡ xs ++ x ∷ [] → ⊥
-snoc_some [] x e = absurd (cc)
-snoc_some (y ∷ xs) x e = absurd (cc)
-
-heads : (x y : Line) (xs ys : List Line) → x ∷ xs ≡ y ∷ ys → (x ≡ y) × (xs ≡ ys)
-heads x y xs ys e = (cc, cc)
-
-snoc_parts : (xs ys : List Line) (x y : Line) → xs ++ x ∷ [] ≡ ys ++ y ∷ [] → (xs ≡ ys) × (x ≡ y)
-snoc_parts [] [] x y e = (refl, (heads x y [] [] e).0)
-snoc_parts [] (b ∷ ys) x y e = absurd (snoc_some ys y (heads x b [] (ys ++ y ∷ []) e).1)
-snoc_parts (a ∷ xs) [] x y e = absurd (snoc_some xs x (sym (heads a y (xs ++ x ∷ []) [] e).1))
-snoc_parts (a ∷ xs) (b ∷ ys) x y e =
-    let h = heads a b (xs ++ x ∷ []) (ys ++ y ∷ []) e in
-    let rest = snoc_parts xs ys x y h.1 in
-    (ap (λ z. z ∷ xs) h.0 ∙ ap (λ zs. b ∷ zs) rest.0, rest.1)
-
--- equal lines declare the same
-declares_once : {ls ks : List Line} {d e : Draft} → Declares ls d → Declares ks e → ls ≡ ks → d ≡ e
-declares_once no_lines no_lines same = refl
-declares_once no_lines (one_more {lines = ks} line e h adds) same = absurd (snoc_some ks line same)
-declares_once (one_more {lines = ls} line e h adds) no_lines same = absurd (snoc_some ls line (sym same))
-declares_once (one_more {lines = ls} {d = d} line e h adds) (one_more {lines = ks} {d = c} other f i more) same =
-    let parts = snoc_parts ls ks line other same in
-    let before = declares_once h i parts.0 in
-    let moved = subst (λ (x : Line). Adds c x e) parts.1 (subst (λ (x : Draft). Adds x line e) before adds) in
-    adds_once c other e f moved more
 
 last_of : (a : Line) (xs : List Line) → (ys : List Line) × (y : Line) × (a ∷ xs ≡ ys ++ y ∷ [])
 last_of a [] = ([], a, refl)

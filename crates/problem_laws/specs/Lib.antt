@@ -1,2 +1,3 @@
+pub mod HasOutcome
 pub mod HasReading
 pub mod Sameness

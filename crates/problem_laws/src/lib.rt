@@ -7,6 +7,10 @@ ghost use Rattle.problem_reading.specs.Spelling.{Spelled, FirstFault};
 ghost use Rattle.problem_laws.specs.HasReading.{HasReading};
 ghost use Rattle.problem_laws.specs.Sameness.{SameProblem, SameFault};
 
+mod next;
+
+pub use next::each_next_line_has_one_outcome;
+
 /// Each text spells exactly one problem or has exactly one first fault, and never both.
 pub fn each_text_has_one_reading(_bytes: &[u8])
     ensures has_reading { HasReading _bytes.now }

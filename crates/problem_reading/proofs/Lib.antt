@@ -4,3 +4,5 @@ pub mod Keeping
 pub mod LineFaults
 pub mod Progress
 pub mod OneSaid
+pub mod OneDraft
+pub mod ReadingSteps

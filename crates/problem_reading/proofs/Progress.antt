@@ -1,13 +1,11 @@
 -- How far the lines of a text were read.
-use Rattle.std.proofs.Common.{◌≡◌, ℕ, ◌+◌, ◌≤◌, ◌<◌, Bool, true, false, not, ◌==◌, List, [], ◌∷◌, ◌++◌, length, take, drop, cond, if◌then◌else◌, append_assoc, append-nil, length-append, refl, ap, sym, subst, ◌∙◌, inl, inr, arith, suc, zero}
+use Rattle.std.proofs.Common.{◌≡◌, ℕ, ◌+◌, ◌≤◌, ◌<◌, Bool, true, false, not, ◌==◌, List, [], ◌∷◌, ◌++◌, length, take, drop, cond, if◌then◌else◌, append_assoc, append-nil, length-append, refl, ap, sym, ◌∙◌, inl, inr, arith, suc, zero}
 use Rattle.std.specs.List.{prefix_len}
 use Rattle.problem_lines.specs.Lines.{lines_of, with_byte}
 use Rattle.problem_reading.specs.declared.stop.TextStop.{TextStop}
 use Rattle.problem_reading.specs.declared.stop.TextStop.TheVariants.{Fault, NoMemory}
-use Rattle.problem_reading.specs.Drafts.{Draft}
-use Rattle.problem_reading.specs.Saying.{Adds}
-use Rattle.problem_reading.specs.Spelling.{Declares, one_more, EndsAt, StopsText}
-use Rattle.problem_reading.specs.Stops.{StopsAt}
+use Rattle.problem_reading.specs.Lines.{StopsAfter, StopsAtEnd}
+use Rattle.problem_reading.specs.Spelling.{StopsText}
 
 -- the bytes before the first line feed
 abbrev pub line_size : List ℕ → ℕ
@@ -32,46 +30,39 @@ pub first_line : (text : List ℕ) → 0 < length text → AsLines text (line_si
 first_line [] h = absurd (omega (arith, h))
 first_line (b ∷ s) h = line_on b s (b == 10) refl (λ c r e. first_line s (omega (arith, ap length e)))
 
--- the lines before the rest of a text have no fault
-pub record IsReadTo (bytes rest : List ℕ) (d : Draft) (n : ℕ) : Type 0 where
-  pub before : List (List ℕ)
+-- after the lines comes the rest of the text
+pub record IsReadTo (bytes rest : List ℕ) (before : List (List ℕ)) : Type 0 where
   pub lines : before ++ lines_of rest ≡ lines_of bytes
-  pub declares : Declares before d
-  pub count : length before ≡ n
-  pub room : n + length rest ≤ length bytes
+  pub room : length before + length rest ≤ length bytes
 
-pub read_on : (bytes rest after line : List ℕ) (d e : Draft) (n m : ℕ) → IsReadTo bytes rest d n → lines_of rest ≡ line ∷ lines_of after →
-    Adds d line e → m ≡ n + 1 → length after < length rest → IsReadTo bytes after e m
-read_on bytes rest after line d e n m is cut adds next shorter = record {
-  before = is.before ++ line ∷ [];
-  lines = append_assoc is.before (line ∷ []) (lines_of after) ∙ ap (λ ls. is.before ++ ls) (sym cut) ∙ is.lines;
-  declares = one_more line e is.declares adds;
-  count = length-append is.before (line ∷ []) ∙ omega (arith, is.count, next);
-  room = omega (arith, is.room, next, shorter);
+pub read_on : (bytes rest after line : List ℕ) (before : List (List ℕ)) → IsReadTo bytes rest before → lines_of rest ≡ line ∷ lines_of after →
+    length after < length rest → IsReadTo bytes after (before ++ line ∷ [])
+read_on bytes rest after line before is cut shorter = record {
+  lines = append_assoc before (line ∷ []) (lines_of after) ∙ ap (λ ls. before ++ ls) (sym cut) ∙ is.lines;
+  room = omega (arith, length-append before (line ∷ []), is.room, shorter);
 }
 
-pub stops_here : (bytes rest after line : List ℕ) (d : Draft) (n : ℕ) (stop : TextStop) → IsReadTo bytes rest d n → lines_of rest ≡ line ∷ lines_of after →
-    StopsAt d line (n + 1) stop → StopsText bytes stop
-stops_here bytes rest after line d n NoMemory is cut h = tt
-stops_here bytes rest after line d n (Fault fault) is cut h = inl (record {
-  before = is.before;
+pub stops_here : (bytes rest after line : List ℕ) (before : List (List ℕ)) (stop : TextStop) → IsReadTo bytes rest before → lines_of rest ≡ line ∷ lines_of after →
+    StopsAfter before line stop → StopsText bytes stop
+stops_here bytes rest after line before NoMemory is cut h = tt
+stops_here bytes rest after line before (Fault fault) is cut h = inl (record {
+  before = before;
   line = line;
   after = lines_of after;
-  draft = d;
-  lines = sym (ap (λ ls. is.before ++ ls) (sym cut) ∙ is.lines);
-  declares = is.declares;
-  number = h.0 ∙ ap (λ k. k + 1) (sym is.count);
-  least = h.1;
+  draft = h.1.0;
+  lines = sym (ap (λ ls. before ++ ls) (sym cut) ∙ is.lines);
+  declares = h.1.1;
+  number = h.0;
+  least = h.1.2;
 })
 
 -- all lines were read
-pub all_read : (bytes rest : List ℕ) (d : Draft) (n : ℕ) → IsReadTo bytes rest d n → rest ≡ [] → Declares (lines_of bytes) d
-all_read bytes rest d n is e =
-    subst (λ (ls : List (List ℕ)). Declares ls d) (sym (append-nil is.before) ∙ ap (λ r. is.before ++ lines_of r) (sym e) ∙ is.lines) is.declares
+pub all_read : (bytes rest : List ℕ) (before : List (List ℕ)) → IsReadTo bytes rest before → rest ≡ [] → before ≡ lines_of bytes
+all_read bytes rest before is e = sym (append-nil before) ∙ ap (λ r. before ++ lines_of r) (sym e) ∙ is.lines
 
-pub ends_here : (bytes : List ℕ) (d : Draft) (stop : TextStop) → Declares (lines_of bytes) d → EndsAt d stop → StopsText bytes stop
-ends_here bytes d NoMemory declares h = tt
-ends_here bytes d (Fault fault) declares h = inr (d, declares, h)
+pub ends_here : (bytes : List ℕ) (stop : TextStop) → StopsAtEnd (lines_of bytes) stop → StopsText bytes stop
+ends_here bytes NoMemory h = tt
+ends_here bytes (Fault fault) h = inr h
 
 pub drop_suc : (n : ℕ) (xs : List ℕ) → drop (suc n) xs ≡ drop 1 (drop n xs)
 drop_suc zero xs = refl

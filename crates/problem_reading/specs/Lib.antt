@@ -2,6 +2,7 @@ pub mod Canonical
 pub mod Drafts
 pub mod Faults
 pub mod Kept
+pub mod Lines
 pub mod Saying
 pub mod Stops
 pub mod Views

@@ -2,7 +2,7 @@ ghost use Rattle.std.specs.Prelude.{◌≡◌, IfOk, IfErr};
 ghost use Rattle.problem_reading.specs.Spelling.{IsProblemOf, EndsAt};
 ghost use Rattle.problem_reading.specs.Views.{draft_of};
 
-use crate::reading::Reading;
+use crate::declarations::Declarations;
 use crate::stop::{TextFault, TextKind, TextStop};
 use formulas::Formula;
 use merge_model::{Problem, Sequence};
@@ -13,9 +13,9 @@ fn end_fault(kind: TextKind) -> TextStop
     TextStop::Fault(TextFault { line: 0, kind })
 }
 
-impl Reading {
-    /// The problem that the lines declare, or the fault of line 0: no atom, or else no agent.
-    pub fn finish(self) -> Result<Problem, TextStop>
+impl Declarations {
+    /// The problem that is declared, or the fault of line 0: no atom, or else no agent.
+    pub(crate) fn finish(self) -> Result<Problem, TextStop>
         ensures problem { IfOk result (IsProblemOf (draft_of self)) }
         ensures stop { IfErr result (EndsAt (draft_of self)) }
     {
@@ -25,7 +25,7 @@ impl Reading {
         if self.agents.is_empty() {
             return Err(end_fault(TextKind::NoAgent));
         }
-        let Reading {
+        let Declarations {
             alloc: _,
             atoms,
             constraint,
@@ -34,7 +34,6 @@ impl Reading {
             constraint_nodes: _,
             other_nodes: _,
             times: _,
-            lines: _,
         } = self;
         let constraint = constraint.unwrap_or(Formula::Top);
         Ok(Problem::new(

@@ -9,9 +9,9 @@ ghost use Rattle.problem_reading.specs.Saying.{IsSaid, Says};
 ghost use Rattle.problem_reading.specs.Stops.{IsFormStop, IsLineStop};
 ghost use Rattle.problem_reading.specs.Views.{draft_of};
 
+use crate::declarations::Declarations;
 use crate::formula::line_formula;
 use crate::names::{any_declared, any_long, any_reserved, are_distinct, extended};
-use crate::reading::Reading;
 use crate::said::Said;
 use crate::stop::{LineStop, TextKind};
 use edge::NoMemory;
@@ -31,36 +31,36 @@ fn is_over(tokens: &[Token], used: u64) -> bool
 }
 
 /// The constraint that a line's tokens spell, or the line's least fault.
-pub fn judge_condition(reading: &Reading, tokens: &[Token]) -> Result<Formula, LineStop>
-    ensures said { IfOk result (λ f. IsSaid (draft_of reading.now) (condition (map lexeme_of tokens.now)) (Said.Condition f)) }
-    ensures stop { IfErr result (IsFormStop (draft_of reading.now) (condition (map lexeme_of tokens.now))) }
+pub fn judge_condition(declared: &Declarations, tokens: &[Token]) -> Result<Formula, LineStop>
+    ensures said { IfOk result (λ f. IsSaid (draft_of declared.now) (condition (map lexeme_of tokens.now)) (Said.Condition f)) }
+    ensures stop { IfErr result (IsFormStop (draft_of declared.now) (condition (map lexeme_of tokens.now))) }
 {
-    let over = is_over(tokens, reading.other_nodes);
+    let over = is_over(tokens, declared.other_nodes);
     line_formula(
-        reading.alloc,
+        declared.alloc,
         tokens,
-        &reading.atoms,
+        &declared.atoms,
         false,
-        reading.constraint.is_some(),
+        declared.constraint.is_some(),
         over,
     )
 }
 
 /// The query that a line's tokens spell, or the line's least fault.
-pub fn judge_query(reading: &Reading, tokens: &[Token]) -> Result<Formula, LineStop>
-    ensures said { IfOk result (λ f. IsSaid (draft_of reading.now) (query (map lexeme_of tokens.now)) (Said.Query f)) }
-    ensures stop { IfErr result (IsFormStop (draft_of reading.now) (query (map lexeme_of tokens.now))) }
+pub fn judge_query(declared: &Declarations, tokens: &[Token]) -> Result<Formula, LineStop>
+    ensures said { IfOk result (λ f. IsSaid (draft_of declared.now) (query (map lexeme_of tokens.now)) (Said.Query f)) }
+    ensures stop { IfErr result (IsFormStop (draft_of declared.now) (query (map lexeme_of tokens.now))) }
 {
-    let over = reading.asks.len() >= 16
-        || is_over(tokens, reading.constraint_nodes + reading.other_nodes);
-    line_formula(reading.alloc, tokens, &reading.atoms, false, false, over)
+    let over = declared.asks.len() >= 16
+        || is_over(tokens, declared.constraint_nodes + declared.other_nodes);
+    line_formula(declared.alloc, tokens, &declared.atoms, false, false, over)
 }
 
 /// Whether an agent of this name is there.
-fn is_agent(reading: &Reading, name: &str) -> bool
-    ensures { result ≡ is_agent (draft_of reading.now) name.now }
+fn is_agent(declared: &Declarations, name: &str) -> bool
+    ensures { result ≡ is_agent (draft_of declared.now) name.now }
 {
-    reading
+    declared
         .agents
         .iter()
         .any(|agent| name.as_bytes() == agent.name.as_slice())
@@ -77,13 +77,13 @@ fn is_too_often(used: u32, times: u32) -> bool
 }
 
 /// Whether one more agent passes a limit.
-fn believes_too_much(reading: &Reading, name: &str, times: u32, tokens: &[Token]) -> bool
+fn believes_too_much(declared: &Declarations, name: &str, times: u32, tokens: &[Token]) -> bool
     requires capped { times ≤ 33 }
-    ensures { (n : ℕ) → times ≡ min n 33 → result ≡ believes_too_much (draft_of reading.now) name.now n (map lexeme_of tokens.now) }
+    ensures { (n : ℕ) → times ≡ min n 33 → result ≡ believes_too_much (draft_of declared.now) name.now n (map lexeme_of tokens.now) }
 {
-    let over = is_over(tokens, reading.constraint_nodes + reading.other_nodes);
-    let often = is_too_often(reading.times, times);
-    reading.agents.len() >= 32 || name.len() > 64 || often || over
+    let over = is_over(tokens, declared.constraint_nodes + declared.other_nodes);
+    let often = is_too_often(declared.times, times);
+    declared.agents.len() >= 32 || name.len() > 64 || often || over
 }
 
 /// The bytes of a name.
@@ -95,69 +95,76 @@ fn copied(alloc: Global, name: &str) -> Result<Sequence<u8>, NoMemory>
 
 /// The agent that a line's tokens declare, or the line's least fault.
 pub fn judge_belief(
-    reading: &Reading,
+    declared: &Declarations,
     name: &str,
     times: u32,
     tokens: &[Token],
 ) -> Result<Agent, LineStop>
     requires capped { times ≤ 33 }
-    ensures said { (n : ℕ) → times ≡ min n 33 → IfOk result (λ agent. IsSaid (draft_of reading.now) (belief name.now n (map lexeme_of tokens.now)) (Said.Belief agent)) }
-    ensures stop { (n : ℕ) → times ≡ min n 33 → IfErr result (IsFormStop (draft_of reading.now) (belief name.now n (map lexeme_of tokens.now))) }
+    ensures said { (n : ℕ) → times ≡ min n 33 → IfOk result (λ agent. IsSaid (draft_of declared.now) (belief name.now n (map lexeme_of tokens.now)) (Said.Belief agent)) }
+    ensures stop { (n : ℕ) → times ≡ min n 33 → IfErr result (IsFormStop (draft_of declared.now) (belief name.now n (map lexeme_of tokens.now))) }
 {
     let reserved = is_reserved(name.as_bytes());
-    let twice = is_agent(reading, name);
-    let over = believes_too_much(reading, name, times, tokens);
-    let base = line_formula(reading.alloc, tokens, &reading.atoms, reserved, twice, over)?;
-    let name = copied(reading.alloc, name)?;
+    let twice = is_agent(declared, name);
+    let over = believes_too_much(declared, name, times, tokens);
+    let base = line_formula(
+        declared.alloc,
+        tokens,
+        &declared.atoms,
+        reserved,
+        twice,
+        over,
+    )?;
+    let name = copied(declared.alloc, name)?;
     Ok(Agent { name, times, base })
 }
 
 /// The atoms with those that a line's tokens declare, or the line's least fault.
-pub fn judge_names(reading: &Reading, tokens: &[Token]) -> Result<Atoms, LineStop>
+pub fn judge_names(declared: &Declarations, tokens: &[Token]) -> Result<Atoms, LineStop>
     requires names { list_all is_name_token (map lexeme_of tokens.now) ≡ true }
-    ensures said { IfOk result (λ atoms. IsSaid (draft_of reading.now) (declaration (words_of (map lexeme_of tokens.now))) (Said.Names atoms)) }
-    ensures stop { IfErr result (IsFormStop (draft_of reading.now) (declaration (words_of (map lexeme_of tokens.now)))) }
+    ensures said { IfOk result (λ atoms. IsSaid (draft_of declared.now) (declaration (words_of (map lexeme_of tokens.now))) (Said.Names atoms)) }
+    ensures stop { IfErr result (IsFormStop (draft_of declared.now) (declaration (words_of (map lexeme_of tokens.now)))) }
 {
     if any_reserved(tokens) {
         return Err(LineStop::Fault(TextKind::Reserved));
     }
-    if !are_distinct(reading.alloc, tokens)? {
+    if !are_distinct(declared.alloc, tokens)? {
         return Err(LineStop::Fault(TextKind::Twice));
     }
-    if any_declared(&reading.atoms, tokens) {
+    if any_declared(&declared.atoms, tokens) {
         return Err(LineStop::Fault(TextKind::Twice));
     }
-    if tokens.len() > (32 - reading.atoms.len()) as usize {
+    if tokens.len() > (32 - declared.atoms.len()) as usize {
         return Err(LineStop::Fault(TextKind::TooMany));
     }
     if any_long(tokens) {
         return Err(LineStop::Fault(TextKind::TooMany));
     }
-    Ok(extended(reading.alloc, &reading.atoms, tokens)?)
+    Ok(extended(declared.alloc, &declared.atoms, tokens)?)
 }
 
 /// What a line of this form says, or its least fault.
-fn judge_form(reading: &Reading, form: LineForm) -> Result<Said, LineStop>
+fn judge_form(declared: &Declarations, form: LineForm) -> Result<Said, LineStop>
     requires { (f : Form) × IsForm form f }
-    ensures said { (f : Form) → IsForm form.entry f → IfOk result (IsSaid (draft_of reading.now) f) }
-    ensures stop { (f : Form) → IsForm form.entry f → IfErr result (IsFormStop (draft_of reading.now) f) }
+    ensures said { (f : Form) → IsForm form.entry f → IfOk result (IsSaid (draft_of declared.now) f) }
+    ensures stop { (f : Form) → IsForm form.entry f → IfErr result (IsFormStop (draft_of declared.now) f) }
 {
     match form {
         LineForm::Blank => Ok(Said::Nothing),
         LineForm::Atoms(names) => {
-            let atoms = judge_names(reading, names)?;
+            let atoms = judge_names(declared, names)?;
             Ok(Said::Names(atoms))
         }
         LineForm::Constraint(tokens) => {
-            let constraint = judge_condition(reading, tokens)?;
+            let constraint = judge_condition(declared, tokens)?;
             Ok(Said::Condition(constraint))
         }
         LineForm::Agent(name, times, tokens) => {
-            let agent = judge_belief(reading, name, times, tokens)?;
+            let agent = judge_belief(declared, name, times, tokens)?;
             Ok(Said::Belief(agent))
         }
         LineForm::Ask(tokens) => {
-            let ask = judge_query(reading, tokens)?;
+            let ask = judge_query(declared, tokens)?;
             Ok(Said::Query(ask))
         }
         LineForm::Unknown => Err(LineStop::Fault(TextKind::BadLine)),
@@ -165,12 +172,12 @@ fn judge_form(reading: &Reading, form: LineForm) -> Result<Said, LineStop>
 }
 
 /// What a line says after what was read, or its least fault; `NoMemory` for want of memory.
-pub fn judge(reading: &Reading, line: &[u8]) -> Result<Said, LineStop>
-    ensures said { IfOk result (Says (draft_of reading.now) line.now) }
-    ensures stop { IfErr result (IsLineStop (draft_of reading.now) line.now) }
+pub fn judge(declared: &Declarations, line: &[u8]) -> Result<Said, LineStop>
+    ensures said { IfOk result (Says (draft_of declared.now) line.now) }
+    ensures stop { IfErr result (IsLineStop (draft_of declared.now) line.now) }
 {
-    match tokens(reading.alloc, content(line))? {
+    match tokens(declared.alloc, content(line))? {
         None => Err(LineStop::Fault(TextKind::BadByte)),
-        Some(tokens) => judge_form(reading, form_of(&tokens)),
+        Some(tokens) => judge_form(declared, form_of(&tokens)),
     }
 }

@@ -1,11 +1,13 @@
 // Reading a problem text line by line, with the least fault of each line.
 #![tactic(auto)]
 
+mod declarations;
 mod ending;
 mod formula;
 mod judging;
 mod lines;
 mod names;
+mod past;
 mod reading;
 mod said;
 mod stop;
@@ -14,8 +16,6 @@ mod tests;
 mod text;
 mod writing;
 
-pub use judging::judge;
 pub use reading::Reading;
-pub use said::Said;
-pub use stop::{LineStop, TextFault, TextKind, TextStop};
+pub use stop::{TextFault, TextKind, TextStop};
 pub use text::read_problem;

@@ -1,96 +1,84 @@
-ghost use Rattle.std.specs.Prelude.{◌≡◌, [], None};
-ghost use Rattle.problem_reading.specs.Kept.{IsKept};
+ghost use Rattle.std.specs.Prelude.{◌≡◌, ◌<◌, ◌^◌, ◌↔◌, [], ◌∷◌, ◌++◌, length, IsTrue, IfOk, OnOk, OnErr, IfErr};
+ghost use Rattle.problem_reading.specs.Lines.{AreFaultless, StopsAfter, IsCanonicalNext, Spell, StopsAtEnd};
 
-use crate::said::Said;
-use edge::NoMemory;
-use formulas::{Atoms, Formula};
-use merge_model::Agent;
+use crate::declarations::Declarations;
+use crate::past::Past;
+use crate::stop::{LineStop, TextFault, TextStop};
+use merge_model::Problem;
 use std::alloc::Global;
+use std::marker::Model;
 
-/// What the lines read so far declare.
+/// The lines of a problem text that were read so far. None of them has a fault.
 #[derive(Drop)]
 pub struct Reading {
-    /// Where the memory of what is declared comes from.
-    pub alloc: Global,
-    /// The atoms, in order of declaration.
-    pub atoms: Atoms,
-    /// The constraint, once its line came.
-    pub constraint: Option<Formula>,
-    /// The agents, in order.
-    pub agents: Vec<Agent>,
-    /// The queries, in order.
-    pub asks: Vec<Formula>,
-    /// The nodes of the constraint, 1 while it has no line.
-    pub constraint_nodes: u64,
-    /// The nodes of the bases and the queries.
-    pub other_nodes: u64,
-    /// How often the agents count together.
-    pub times: u32,
-    /// The number of lines.
-    pub lines: u64,
-    pub ghost kept: { IsKept atoms constraint agents.items asks.items constraint_nodes other_nodes times },
+    /// What the lines declare.
+    declared: Declarations,
+    /// How many lines there are.
+    count: u64,
+    /// The lines, which take no memory.
+    past: Past,
+}
+
+impl Model for Reading {
+    ghost use Rattle.std.specs.Prelude.{List, ℕ};
+
+    ghost Value = { List (List ℕ) };
+
+    ghost use Rattle.problem_reading.specs.Lines.{HasRead};
+    ghost use Rattle.problem_reading.specs.Views.{draft_of};
+
+    ghost view = { λ r. r.past.lines };
+
+    ghost invariant = { λ r. HasRead r.past.lines (draft_of r.declared) r.count };
 }
 
 impl Reading {
-    ghost use Rattle.problem_reading.specs.Drafts.{empty_draft};
-    ghost use Rattle.problem_reading.specs.Views.{draft_of};
-
     /// A reading of no lines.
     pub fn new(alloc: Global) -> Reading
-        ensures atoms { result.atoms ≡ [] }
-        ensures constraint { result.constraint ≡ None }
-        ensures agents { result.agents.items ≡ [] }
-        ensures asks { result.asks.items ≡ [] }
-        ensures empty { draft_of result ≡ empty_draft }
-        ensures lines { result.lines ≡ 0 }
+        ensures { result ≡ [] }
     {
         Reading {
-            alloc,
-            atoms: Atoms::new(alloc),
-            constraint: None,
-            agents: Vec::new(alloc),
-            asks: Vec::new(alloc),
-            constraint_nodes: 1,
-            other_nodes: 0,
-            times: 0,
-            lines: 0,
+            declared: Declarations::new(alloc),
+            count: 0,
+            past: Past::new(),
         }
     }
-}
 
-impl Reading {
-    ghost use Rattle.std.specs.Prelude.{OnOk, OnErr};
-    ghost use Rattle.problem_reading.specs.Fitting.{Fits};
-    ghost use Rattle.problem_reading.specs.Saying.{after};
-    ghost use Rattle.problem_reading.specs.Views.{draft_of};
-
-    /// Takes in what a line said; `NoMemory` leaves the reading as it was.
-    pub(crate) fn take(&mut self, said: Said) -> Result<(), NoMemory>
-        requires { Fits (draft_of self.old) said }
-        ensures taken { OnOk result (draft_of self.new ≡ after (draft_of self.old) said) }
-        ensures kept { OnErr result (draft_of self.new ≡ draft_of self.old) }
-        ensures lines { self.new.lines ≡ self.old.lines }
+    /// Reads one more line, and tells whether it has tokens and is written as in a canonical
+    /// text. A refusal, which names the least fault of the line or says that there was no memory
+    /// left, changes nothing.
+    pub fn line(&mut self, line: &[u8]) -> Result<bool, TextStop>
+        requires few { length self.old < 2 ^ 63 }
+        ensures read { OnOk result (self.new ≡ self.old ++ line.now ∷ []) }
+        ensures canonical { IfOk result (λ written. IsTrue written ↔ IsCanonicalNext self.old line.now) }
+        ensures stop { IfErr result (StopsAfter self.old line.now) }
+        ensures kept { OnErr result (self.new ≡ self.old) }
+        ensures faultless { AreFaultless self.new }
     {
-        match said {
-            Said::Nothing => {}
-            Said::Names(atoms) => self.atoms = atoms,
-            Said::Condition(constraint) => {
-                self.constraint_nodes = constraint.nodes();
-                self.constraint = Some(constraint);
-            }
-            Said::Belief(agent) => {
-                let nodes = agent.base.nodes();
-                let times = agent.times;
-                self.agents.push(agent)?;
-                self.other_nodes += nodes;
-                self.times += times;
-            }
-            Said::Query(ask) => {
-                let nodes = ask.nodes();
-                self.asks.push(ask)?;
-                self.other_nodes += nodes;
+        match self.declared.line(line) {
+            Err(LineStop::Fault(kind)) => Err(TextStop::Fault(TextFault {
+                line: self.count + 1,
+                kind,
+            })),
+            Err(LineStop::NoMemory) => Err(TextStop::NoMemory),
+            Ok(written) => {
+                self.past = Past::with(&self.past, line);
+                self.count += 1;
+                Ok(written)
             }
         }
-        Ok(())
+    }
+
+    /// The problem that the lines spell, or the fault of line 0: no atom, or else no agent.
+    pub fn finish(self) -> Result<Problem, TextStop>
+        ensures problem { IfOk result (Spell self) }
+        ensures stop { IfErr result (StopsAtEnd self) }
+    {
+        let Reading {
+            declared,
+            count: _,
+            past: _,
+        } = self;
+        declared.finish()
     }
 }

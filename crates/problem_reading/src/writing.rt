@@ -3,7 +3,7 @@ ghost use Rattle.problem_reading.specs.Canonical.{IsWritten};
 ghost use Rattle.problem_reading.specs.Fitting.{Fits};
 ghost use Rattle.problem_reading.specs.Views.{draft_of};
 
-use crate::reading::Reading;
+use crate::declarations::Declarations;
 use crate::said::Said;
 use edge::NoMemory;
 use profile_text::{agent_line, ask_line, atoms_line, constraint_line};
@@ -17,12 +17,16 @@ fn is_text(line: &[u8], text: Vec<u8>) -> bool
 
 /// Whether a line that says this is written as in a canonical text; `NoMemory` for want of
 /// memory.
-pub(crate) fn is_written(reading: &Reading, said: &Said, line: &[u8]) -> Result<bool, NoMemory>
-    requires { Fits (draft_of reading.now) said.now }
-    ensures { IfOk result (λ written. IsTrue written ↔ IsWritten (draft_of reading.now) line.now said.now) }
+pub(crate) fn is_written(
+    declared: &Declarations,
+    said: &Said,
+    line: &[u8],
+) -> Result<bool, NoMemory>
+    requires { Fits (draft_of declared.now) said.now }
+    ensures { IfOk result (λ written. IsTrue written ↔ IsWritten (draft_of declared.now) line.now said.now) }
 {
-    let alloc = reading.alloc;
-    let atoms = &reading.atoms;
+    let alloc = declared.alloc;
+    let atoms = &declared.atoms;
     match said {
         Said::Nothing => Ok(false),
         Said::Names(names) => Ok(is_text(line, atoms_line(alloc, names, atoms.len())?)),

@@ -7,7 +7,9 @@ ghost use Rattle.report_words.specs.declared.numbers.WideLit.{WideLit as Literal
 /// A literal as a word spells it: its number may be larger than that of any variable.
 #[derive(Clone, Copy, Debug, PartialEq, Eq)]
 pub struct WideLit {
+    /// The number that the word spells, without its sign.
     pub var: u64,
+    /// Whether no `-` stands before the number.
     pub positive: bool,
 }
 

@@ -41,6 +41,7 @@ fn needing_one(alloc: Global, vars: &[u32], output: u32) -> Result<Vec<Lit>, NoM
 
 /// The disjunction of variables: appends clauses over one fresh variable, which is true exactly where one of the
 /// variables is, and answers the counter of it.
+/// After `NoMemory` the list has grown by some variables and some of these clauses, from the first on.
 pub fn either(alloc: Global, clauses: &mut ClauseList, vars: &[u32]) -> Result<Unary, NoMemory>
     requires some { 1 ≤ length vars.now }
     requires vars_in { AreVarsWithin clauses.old.vars vars.now }

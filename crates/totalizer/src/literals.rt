@@ -6,7 +6,7 @@ ghost use Rattle.clause_store.specs.Lits.{positive_lit, sorted_clause, InRange};
 use clause_store::{ClauseList, Lit};
 use edge::NoMemory;
 
-// The literal of a variable.
+/// The literal of a variable.
 pub fn positive(var: u32) -> Lit
     ensures { result ≡ positive_lit var }
 {
@@ -16,7 +16,7 @@ pub fn positive(var: u32) -> Lit
     }
 }
 
-// One more clause, whose number is not needed.
+/// One more clause, whose number is not needed.
 pub fn add(clauses: &mut ClauseList, lits: &[Lit]) -> Result<(), NoMemory>
     requires in_range { InRange clauses.old.vars lits.now }
     ensures vars { clauses.new.vars ≡ clauses.old.vars }

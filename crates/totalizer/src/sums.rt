@@ -3,8 +3,8 @@
 ghost use Rattle.std.specs.Prelude.{◌≡◌, ℕ, ◌+◌, ◌*◌, ◌<◌, ◌≤◌, ◌^◌, [], ◌∷◌, ◌++◌, IfOk, OnOk, OnErr, length, map};
 ghost use Rattle.clause_store.specs.Lits.{sorted_clause};
 ghost use Rattle.clause_store.specs.Grew.{Grew};
-ghost use Rattle.totalizer.specs.Counter.{AreVarsWithin, AllVarsWithin};
-ghost use Rattle.totalizer.specs.Plus.{up_clauses, down_clauses, pair_clauses, row_clauses, plus_clauses, fresh_outputs, plus_due, IsSum};
+ghost use Rattle.totalizer.specs.Counter.{fresh_vars, AreVarsWithin, AllVarsWithin};
+ghost use Rattle.totalizer.specs.Plus.{up_clauses, down_clauses, pair_clauses, row_clauses, plus_clauses, plus_due, IsSum};
 ghost use Rattle.totalizer.specs.Total.{total_due, IsTotal};
 
 use crate::literals::{add, positive};
@@ -151,9 +151,10 @@ fn add_rows(
 }
 
 // That many fresh variables.
+#[tactic(auto, using(crate::proofs::FreshVars::fresh_vars_next))]
 fn fresh_many(alloc: Global, clauses: &mut ClauseList, n: usize) -> Result<Vec<u32>, NoMemory>
     requires room { clauses.old.vars + n ≤ 2 ^ 31 }
-    ensures outputs { IfOk result (λ r. r.items ≡ fresh_outputs clauses.old.vars n) }
+    ensures outputs { IfOk result (λ r. r.items ≡ fresh_vars clauses.old.vars n) }
     ensures vars { OnOk result (clauses.new.vars ≡ clauses.old.vars + n) }
     ensures list { clauses.new.list ≡ clauses.old.list }
     ensures more { clauses.old.vars ≤ clauses.new.vars }
@@ -168,6 +169,7 @@ fn fresh_many(alloc: Global, clauses: &mut ClauseList, n: usize) -> Result<Vec<u
 
 /// The sum of two counters: appends clauses over as many fresh variables as both have outputs, and answers the
 /// counter of these.
+/// After `NoMemory` the list has grown by some variables and some of these clauses, from the first on.
 pub fn plus(
     alloc: Global,
     clauses: &mut ClauseList,
@@ -213,7 +215,8 @@ fn total_of(alloc: Global, clauses: &mut ClauseList, parts: &[Unary]) -> Result<
 }
 
 /// The sum of counters: of one, the counter itself, and of more, the sum of the totals of the first half, rounded
-/// down, and of the rest. A part that stands twice counts twice.
+/// down, and of the rest. A part that stands twice counts twice. After `NoMemory` the list has grown by some
+/// variables and some of the clauses that are due, from the first on.
 pub fn total(alloc: Global, clauses: &mut ClauseList, parts: &[Unary]) -> Result<Unary, NoMemory>
     requires some { 1 ≤ length parts.now }
     requires parts_in { AllVarsWithin clauses.old.vars parts.now }

@@ -26,7 +26,7 @@ impl Model for Unary {
 }
 
 impl Unary {
-    // A counter with these outputs.
+    /// The counter with these outputs, made without taking memory.
     pub fn from_outputs(outputs: Vec<u32>) -> Unary
         requires some { 1 ≤ length outputs.items }
         requires few { length outputs.items ≤ 2 ^ 31 }
@@ -34,6 +34,17 @@ impl Unary {
         ensures { result ≡ outputs.items }
     {
         Unary { outputs }
+    }
+
+    /// The outputs, given back without taking memory.
+    pub fn into_outputs(self) -> Vec<u32>
+        ensures value { result.items ≡ self }
+        ensures some { 1 ≤ length self }
+        ensures few { length self ≤ 2 ^ 31 }
+        ensures numbered { All (λ v. 1 ≤ v) self }
+    {
+        let Unary { outputs } = self;
+        outputs
     }
 
     /// How many outputs there are.
@@ -66,7 +77,7 @@ impl Unary {
         self.outputs.as_slice()
     }
 
-    /// The same counter once more.
+    /// The same counter once more; `NoMemory` for want of memory.
     pub fn copy(&self) -> Result<Unary, NoMemory>
         ensures { IfOk result (λ r. r ≡ self.now) }
     {
@@ -76,7 +87,8 @@ impl Unary {
     }
 }
 
-/// The counter of one variable: its value is 1 where the variable is true, and 0 elsewhere.
+/// The counter of one variable: its value is 1 where the variable is true, and 0 elsewhere. `NoMemory` for want
+/// of memory.
 pub fn leaf(alloc: Global, var: u32) -> Result<Unary, NoMemory>
     requires { 1 ≤ var }
     ensures outputs { IfOk result (λ r. r ≡ var ∷ []) }
@@ -88,7 +100,7 @@ pub fn leaf(alloc: Global, var: u32) -> Result<Unary, NoMemory>
     Ok(Unary { outputs })
 }
 
-/// The counter of each variable alone, in order.
+/// The counter of each variable alone, in order; `NoMemory` for want of memory.
 pub fn leaves(alloc: Global, vars: &[u32]) -> Result<Vec<Unary>, NoMemory>
     requires { All (λ v. 1 ≤ v) vars.now }
     ensures { IfOk result (λ parts. parts.items ≡ leaves vars.now) }

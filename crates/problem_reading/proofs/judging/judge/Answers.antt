@@ -27,7 +27,7 @@ line_stop d line good (Fault kind) h = fault_of_form d line kind good h
 pub returns-in-Some-clause-stop : goal.returns-in-Some-clause-stop
 returns-in-Some-clause-stop c =
     let line = c.args.line.now in
-    let d = draft_of c.args.reading.now in
+    let d = draft_of c.args.declared.now in
     let text = c.content.result.now in
     let cut = ap (map lexeme_of) c.deref.ensures.value ∙ subst (λ o. IfSome o (λ ts. map lexeme_of ts.items ≡ lexemes_of text)) c.in-Some.is c.in_ok-tokens.ensures.cut
     ∙ ap lexemes_of c.content.ensures in

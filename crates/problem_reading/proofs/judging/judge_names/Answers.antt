@@ -23,20 +23,20 @@ returns-then-tokens-len-clause-stop c =
     let distinct : are_distinct (words_of ts) ≡ true = sym c.in_ok-are_distinct.ensures ∙ grind (arith, c.if-not-branch.false) in (
       sym c.if-any_reserved.ensures,
       no_twice _ _ distinct (sym c.if-any_declared.ensures),
-      over_count (length c.args.reading.now.atoms) (length (words_of ts)) _ (omega (arith, size, c.if-tokens-len.true, c.len.ensures.number)),
+      over_count (length c.args.declared.now.atoms) (length (words_of ts)) _ (omega (arith, size, c.if-tokens-len.true, c.len.ensures.number)),
     )
 
 pub extended-requires-clause-few : goal.extended-requires-clause-few
 extended-requires-clause-few c =
     let ts = map lexeme_of c.args.tokens.now in
     let size = word_count ts ∙ length-map c.args.tokens.now lexeme_of in
-    omega (arith, size, c.if-tokens-len.false, c.len.ensures.number, c.len.ensures.few, length-append c.args.reading.now.atoms (words_of ts))
+    omega (arith, size, c.if-tokens-len.false, c.len.ensures.number, c.len.ensures.few, length-append c.args.declared.now.atoms (words_of ts))
 
 pub extended-requires-clause-names : goal.extended-requires-clause-names
 extended-requires-clause-names c =
     let ts = map lexeme_of c.args.tokens.now in
     let distinct : are_distinct (words_of ts) ≡ true = sym c.in_ok-are_distinct.ensures ∙ grind (arith, c.if-not-branch.false) in
-    joined_names c.args.reading.now.atoms (words_of ts) c.len.ensures.names
+    joined_names c.args.declared.now.atoms (words_of ts) c.len.ensures.names
     (all_names ts c.requires.names (sym c.if-any_reserved.ensures) (sym c.if-any_long.ensures)) distinct (sym c.if-any_declared.ensures)
 
 pub returns-clause-said : goal.returns-clause-said
@@ -46,6 +46,6 @@ returns-clause-said c =
     let distinct : are_distinct (words_of ts) ≡ true = sym c.in_ok-are_distinct.ensures ∙ grind (arith, c.if-not-branch.false) in (
       sym c.if-any_reserved.ensures,
       no_twice _ _ distinct (sym c.if-any_declared.ensures),
-      within_count (length c.args.reading.now.atoms) (length (words_of ts)) _ (omega (arith, size, c.if-tokens-len.false, c.len.ensures.number, c.len.ensures.few)) (sym c.if-any_long.ensures),
+      within_count (length c.args.declared.now.atoms) (length (words_of ts)) _ (omega (arith, size, c.if-tokens-len.false, c.len.ensures.number, c.len.ensures.few)) (sym c.if-any_long.ensures),
       c.in_ok-extended.ensures,
     )

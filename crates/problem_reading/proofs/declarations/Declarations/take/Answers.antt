@@ -5,7 +5,7 @@ use Rattle.problem_reading.specs.Fitting.{Fits}
 use Rattle.problem_reading.specs.Kept.{IsKept}
 use Rattle.problem_reading.specs.Views.{draft_of}
 use Rattle.problem_reading.proofs.Keeping.{kept_belief}
-use Rattle.problem_reading.proofs.reading.Reading.take.Goals as goal
+use Rattle.problem_reading.proofs.declarations.Declarations.take.Goals as goal
 
 pub invariant_of-self-in-Belief : goal.invariant_of-self-in-Belief
 invariant_of-self-in-Belief c =

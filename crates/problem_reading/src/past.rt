@@ -1,0 +1,31 @@
+// Lines that only clauses see.
+ghost use Rattle.std.specs.Prelude.{◌≡◌, ℕ, List, [], ◌∷◌, ◌++◌};
+ghost use Rattle.std.specs.Borrow.{ftrue};
+
+use std::marker::Model;
+
+/// A list of lines that takes no memory: only clauses see it, and its functions do nothing.
+#[derive(Drop)]
+pub(crate) struct Past {
+    pub ghost lines: { List (List ℕ) },
+}
+
+impl Model for Past {
+    ghost also_owns = { λ _. ftrue };
+}
+
+impl Past {
+    /// No lines.
+    pub(crate) fn new() -> Past
+        ensures { result.lines ≡ [] }
+    {
+        Past {}
+    }
+
+    /// The lines with one more at their end.
+    pub(crate) fn with(_before: &Past, _line: &[u8]) -> Past
+        ensures { result.lines ≡ _before.now.lines ++ _line.now ∷ [] }
+    {
+        Past {}
+    }
+}
