@@ -123,7 +123,8 @@ some_is false u false false v w e f = f
 
 -- some difference variable is true exactly where the drastic distance is 1
 some_differs : (b : ℕ → Bool) (v : ℕ) (xs ys : List Lit) → length xs ≡ length ys → AreDifferences b v xs ys → (if any_of b (fresh_vars v (length xs)) then 1 else 0) ≡ drastic (truth_of b xs) (truth_of b ys)
-some_differs b v [] ys e h = refl
+some_differs b v [] [] e h = refl
+some_differs b v [] (y ∷ ys) e h = absurd (omega arith)
 some_differs b v (x ∷ xs) [] e h = absurd (omega arith)
 some_differs b v (x ∷ xs) (y ∷ ys) e h =
     some_is (b (v + 1)) (any_of b (fresh_vars (v + 1) (length xs))) (lit_true b x) (lit_true b y) (truth_of b xs) (truth_of b ys) (head b v x y xs ys h) (some_differs b (v + 1) xs ys (omega arith) (later b v x y xs ys h))

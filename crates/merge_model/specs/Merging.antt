@@ -51,11 +51,6 @@ repeated (t ∷ times) (u ∷ us) = replicate t u ++ repeated times us
 abbrev pub full_of : (List Bool → List Bool → ℕ) → Profile → List Bool → List ℕ
 full_of dist p v = repeated p.times (vector_of dist p.bases v)
 
--- the constraint and every base have a model
-pub record IsConsistent (p : Profile) : Type 0 where
-  pub constraint : HasModel p.atoms p.constraint
-  pub bases : All (HasModel p.atoms) p.bases
-
 -- the constraint or some base has no model
 abbrev pub LacksModel : Profile → Type 0
 LacksModel p = (HasModel p.atoms p.constraint → ⊥) ⊎ Any (λ base. HasModel p.atoms base → ⊥) p.bases
