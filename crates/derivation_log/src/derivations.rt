@@ -71,6 +71,7 @@ impl Derivations {
     pub fn append(&mut self, step: Step) -> Result<u64, NoMemory>
         requires { InRange self.old.vars step.clause }
         ensures number { IfOk result (λ k. k ≡ length (known_of self.old)) }
+        ensures small { IfOk result (λ k. k < 2 ^ 63) }
         ensures ok { OnOk result (self.new ≡ record self.old { steps = self.old.steps ++ step ∷ [] }) }
         ensures err { OnErr result (self.new ≡ self.old) }
     {

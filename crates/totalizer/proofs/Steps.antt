@@ -49,8 +49,10 @@ joined_grew f j n old now new e le lt g = joined_rest f (suc j) n old new (omega
 -- variables alone
 pub grew_vars : (old mid new : Clauses) (due : List (List Lit)) → mid.list ≡ old.list → old.vars ≤ mid.vars → Grew mid new due → Grew old new due
 grew_vars old mid new due e le g = record {
+  added = g.added;
   missing = g.missing;
-  part = g.part ∙ ap (λ x. x ++ map sorted_clause due) e;
+  kept = g.kept ∙ ap (λ x. x ++ g.added) e;
+  part = g.part;
   more = let m = g.more in omega arith;
 }
 
