@@ -1,6 +1,6 @@
 use Rattle.std.proofs.Common.{◌+◌, length, refl, sym, ap, ◌∙◌, subst, arith}
 use Rattle.clause_store.proofs.Grows.{grew_none, grew_front}
-use Rattle.totalizer.specs.Joined.{joined}
+use Rattle.totalizer.specs.Joined.{joined_blocks}
 use Rattle.totalizer.specs.Counter.{fresh_vars, AreVarsWithin}
 use Rattle.totalizer.specs.Either.{either_due}
 use Rattle.totalizer.proofs.FreshVars.{fresh_vars_within}
@@ -14,7 +14,7 @@ returns-in_err-vars-clause-err c =
 
 pub returns-in_err-add_differences-clause-err : goal.returns-in_err-add_differences-clause-err
 returns-in_err-add_differences-clause-err c =
-    on_err c.from_residual-in_err-add_differences.result (grew_front c.args.clauses.now c.add_differences.new.clauses (joined (difference_at c.args.clauses.now.vars c.args.shared.now c.args.own.now) (length c.args.shared.now)) (either_due (c.args.clauses.now.vars + length c.args.shared.now) (fresh_vars c.args.clauses.now.vars (length c.args.shared.now))).clauses c.in_err-add_differences.ensures.err)
+    on_err c.from_residual-in_err-add_differences.result (grew_front c.args.clauses.now c.add_differences.new.clauses (joined_blocks (difference_at c.args.clauses.now.vars c.args.shared.now c.args.own.now) (length c.args.shared.now)) (either_due (c.args.clauses.now.vars + length c.args.shared.now) (fresh_vars c.args.clauses.now.vars (length c.args.shared.now))).clauses c.in_err-add_differences.ensures.err)
 
 pub either-requires-clause-vars_in : goal.either-requires-clause-vars_in
 either-requires-clause-vars_in c =

@@ -1,6 +1,6 @@
 use Rattle.std.proofs.Common.{◌+◌, ◌≤◌, ◌^◌, length, refl, sym, ap, ◌∙◌, subst, arith}
 use Rattle.clause_store.proofs.Grows.{grew_none, grew_front}
-use Rattle.totalizer.specs.Joined.{joined}
+use Rattle.totalizer.specs.Joined.{joined_blocks}
 use Rattle.std.specs.List.{All}
 use Rattle.totalizer.specs.Counter.{fresh_vars, AllVarsWithin, leaves}
 use Rattle.totalizer.specs.Total.{total_due}
@@ -17,7 +17,7 @@ returns-in_err-vars-clause-err c =
 
 pub returns-in_err-add_differences-clause-err : goal.returns-in_err-add_differences-clause-err
 returns-in_err-add_differences-clause-err c =
-    on_err c.from_residual-in_err-add_differences.result (grew_front c.args.clauses.now c.add_differences.new.clauses (joined (difference_at c.args.clauses.now.vars c.args.shared.now c.args.own.now) (length c.args.shared.now)) (total_due (c.args.clauses.now.vars + length c.args.shared.now) (leaves (fresh_vars c.args.clauses.now.vars (length c.args.shared.now)))).clauses c.in_err-add_differences.ensures.err)
+    on_err c.from_residual-in_err-add_differences.result (grew_front c.args.clauses.now c.add_differences.new.clauses (joined_blocks (difference_at c.args.clauses.now.vars c.args.shared.now c.args.own.now) (length c.args.shared.now)) (total_due (c.args.clauses.now.vars + length c.args.shared.now) (leaves (fresh_vars c.args.clauses.now.vars (length c.args.shared.now)))).clauses c.in_err-add_differences.ensures.err)
 
 pub returns-in_err-parts-clause-err : goal.returns-in_err-parts-clause-err
 returns-in_err-parts-clause-err c =
