@@ -3,8 +3,9 @@
 ghost use Rattle.std.specs.Prelude.{◌≡◌, ℕ, ◌+◌, ◌<◌, ◌≤◌, ◌^◌, [], ◌∷◌, ◌++◌, IfOk, OnOk, OnErr, length, map};
 ghost use Rattle.clause_store.specs.Lits.{sorted_clause, IsWithin, InRange};
 ghost use Rattle.clause_store.specs.Grew.{Grew};
+ghost use Rattle.totalizer.specs.Counter.{fresh_vars};
 ghost use Rattle.totalizer.specs.Joined.{joined};
-ghost use Rattle.agent_copies.specs.Differences.{difference_clauses, difference_at, fresh_vars};
+ghost use Rattle.agent_copies.specs.Differences.{difference_clauses, difference_at};
 
 use clause_store::{ClauseList, Lit};
 use edge::NoMemory;
@@ -54,7 +55,7 @@ pub fn add_differences(
 }
 
 /// The variables after one.
-#[tactic(auto, using(crate::proofs::Steps::fresh_step))]
+#[tactic(auto, using(totalizer::proofs::FreshVars::fresh_vars_next))]
 pub fn vars_after(alloc: Global, last: u32, count: usize) -> Result<Vec<u32>, NoMemory>
     requires { last + count ≤ 2 ^ 31 }
     ensures { IfOk result (λ vars. vars.items ≡ fresh_vars last count) }

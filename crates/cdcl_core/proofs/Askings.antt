@@ -1,11 +1,12 @@
 -- What decisions and going back leave of the assumptions.
-use Rattle.std.proofs.Common.{◌≡◌, ◌≢◌, ℕ, ◌+◌, ◌-◌, ◌<◌, ◌≤◌, Bool, true, false, List, [], ◌∷◌, ◌++◌, length, refl, ap, sym, ◌∙◌, rules, arith, cond, eqb, inl, inr, subst, Some, None, Option, min}
+use Rattle.std.proofs.Common.{◌≡◌, ◌≢◌, ℕ, ◌+◌, ◌<◌, ◌≤◌, Bool, true, false, List, [], ◌∷◌, refl, ap, sym, ◌∙◌, arith, eqb, inl, inr, subst, Some, None, Option, take, get_or}
 use Rattle.std.specs.Prelude.{nat_le, All, Contains}
 use Rattle.std.proofs.lemmas.Bool.{cases_lt, cases_eq}
 use Rattle.clause_store.specs.declared.lit.Lit.{Lit}
 use Rattle.watch_lists.specs.declared.entry.Entry.{Entry}
-use Rattle.watch_lists.specs.Trace.{Trace, value_of, entry_of, under, upto, AreApart, IsStacked, IsTrace}
-use Rattle.clause_store.specs.Lits.{has}
+use Rattle.watch_lists.specs.Trace.{Trace, Attached, Grows, Same, More, value_of, entry_of, under, upto, AreApart, IsStacked, IsTrace}
+use Rattle.watch_lists.proofs.Traces.{free_entry}
+use Rattle.cdcl_core.specs.Choices.{AreTrue}
 use Rattle.solver_laws.specs.Ready.{DecidesOnly}
 use Rattle.solver_laws.proofs.Rooms.{upto_whole, upto_upto, contains_has}
 use Rattle.watch_lists.proofs.Scans.{contains_all}
@@ -24,6 +25,27 @@ upto_value vars k (x ∷ xs) l b a h =
             | inr q ↦ (let t : eqb x.lit.var l.var ≡ false = grind arith in rw t r)
           ])
     ]
+
+-- literals keep their values while entries come
+pub value_more : (es : List Entry) (e : Entry) (l : Lit) (b : Bool) → value_of es e.lit ≡ None → value_of es l ≡ Some b → value_of (e ∷ es) l ≡ Some b
+value_more es e l b f h =
+    elim (cases_eq e.lit.var l.var) [
+      | inl q ↦ (let n : entry_of es l.var ≡ None = subst (λ (v : ℕ). entry_of es v ≡ None) q (free_entry (entry_of es e.lit.var) e.lit.positive f) in let z = sym (ap (λ (o : Option Entry). under o l.positive) n) ∙ h in absurd (cc))
+      | inr q ↦ (let t : eqb e.lit.var l.var ≡ false = grind arith in rw t h)
+    ]
+
+pub value_grows : (w : List Attached) (level : ℕ) (es fs : List Entry) (l : Lit) (b : Bool) → Grows w level es fs → value_of es l ≡ Some b → value_of fs l ≡ Some b
+value_grows w level es _ l b (Same fs) h = h
+value_grows w level es _ l b (More fs gs n c m q at i) h = value_more gs (record { lit = m; level = level; reason = Some n }) l b i.free (value_grows w level es gs l b q h)
+
+pub true_kept : (n : ℕ) (asked : List Lit) (t t' : Trace) → ((l : Lit) → value_of t.entries l ≡ Some true → value_of t'.entries l ≡ Some true) → AreTrue n asked t → AreTrue n asked t'
+true_kept n asked t t' f a k d lt = f (get_or (take n asked) k d) (a k d lt)
+
+pub true_opened : (n : ℕ) (asked : List Lit) (t t' : Trace) (l : Lit) → value_of t.entries l ≡ None → (let u : Trace = record { vars = t.vars; level = t.level + 1; entries = record { lit = l; level = t.level + 1; reason = None } ∷ t.entries } in t' ≡ u) →
+    AreTrue n asked t → AreTrue n asked t'
+true_opened n asked t t' l f e a =
+    let u : Trace = record { vars = t.vars; level = t.level + 1; entries = record { lit = l; level = t.level + 1; reason = None } ∷ t.entries } in
+    subst (AreTrue n asked) (sym e) (true_kept n asked t u (λ x h. value_more t.entries (record { lit = l; level = t.level + 1; reason = None }) x true f h) a)
 
 decides_raise : (asked : List Lit) (lv m n : ℕ) (es : List Entry) → IsStacked lv es → lv ≤ m → DecidesOnly asked m es → DecidesOnly asked n es
 decides_raise asked lv m n [] s h d = tt

@@ -1,16 +1,17 @@
 -- Lemmas on claimed steps.
-use Rattle.std.proofs.Common.{◌≡◌, ◌≢◌, ℕ, ◌+◌, ◌-◌, ◌<◌, ◌≤◌, Bool, true, false, not, List, [], ◌∷◌, ◌++◌, length, refl, ap, sym, ◌∙◌, rules, arith, cond, inl, inr, subst, zero, suc, Some, None, Option, drop}
-use Rattle.std.specs.Prelude.{◌⊎◌, slice_get}
+use Rattle.std.proofs.Common.{◌≡◌, ℕ, ◌-◌, ◌≤◌, true, false, List, [], ◌∷◌, ◌++◌, length, refl, ap, sym, ◌∙◌, rules, arith, inl, inr, subst, suc, Some, None, drop}
+use Rattle.std.specs.Prelude.{slice_get}
 use Rattle.std.proofs.lemmas.Bool.{cases_Bool}
 use Rattle.clause_store.specs.declared.lit.Lit.{Lit}
 use Rattle.clause_store.specs.Lits.{negated, same_lit, without, resolvent, Ascends, InRange, has}
 use Rattle.watch_lists.specs.declared.entry.Entry.{Entry}
-use Rattle.watch_lists.specs.Trace.{Trace, Attached, value_of, IsStacked, StandIn, oldest}
+use Rattle.watch_lists.specs.Trace.{Attached, IsStacked, StandIn, oldest}
 use Rattle.derivation_log.specs.declared.step.Link.{Link}
-use Rattle.solver_laws.specs.Ready.{IsFalseIn, IsReason, IsJustified, DecidesOnly, IsBarred, IsBarredBy, IsLesson}
+use Rattle.log_checker.specs.Refutes.{Refutes}
+use Rattle.solver_laws.specs.Ready.{IsFalseIn, IsJustified, DecidesOnly, IsBarred, IsLesson}
 use Rattle.std.specs.List.{AllByRecursion}
 use Rattle.solver_laws.proofs.Rooms.{same_lit-is, each_map, each_resolvent, each_lacks, false_before}
-use Rattle.solver_laws.proofs.Steps.{lesson_more, reason_at, Reason}
+use Rattle.solver_laws.proofs.Steps.{lesson_more, reason_at}
 
 -- all decisions are assumptions
 abbrev pub AllDecided : List Lit → List Entry → Type 0
@@ -72,8 +73,8 @@ claim_step known watched vars first as' rest e chain c d p n st q w r g a ra h =
       lesson = lesson_more known vars first chain c d p n w.lesson g a ra h hd;
     }
 
-pub claim_end : (as' : List Lit) (c : List Lit) → AllByRecursion (IsBarred as' []) c → AllByRecursion (IsBarredBy as') c
-claim_end as' c e = each_map (IsBarred as' []) (IsBarredBy as') c (λ l x. elim x [ inl h ↦ h | inr f ↦ absurd (cc) ]) e
+pub claim_end : (as' : List Lit) (c : List Lit) → AllByRecursion (IsBarred as' []) c → Refutes c as'
+claim_end as' c e = each_map (IsBarred as' []) (λ (l : Lit). has (negated l) as' ≡ true) c (λ l x. elim x [ inl h ↦ h | inr f ↦ absurd (cc) ]) e
 
 pub oldest_none : (es : List Entry) → oldest 0 es ≡ []
 oldest_none [] = refl

@@ -1,17 +1,18 @@
 -- Lemmas on answers.
 use Rattle.std.proofs.Common.{◌≡◌, ◌≢◌, ℕ, ◌+◌, ◌-◌, ◌<◌, ◌≤◌, Bool, true, false, not, List, [], ◌∷◌, ◌++◌, length, refl, ap, sym, ◌∙◌, rules, arith, cond, eqb, inl, inr, subst, zero, suc, Some, None, Option, get_or, map, append_assoc, length-append}
-use Rattle.std.specs.Prelude.{All, Contains, AllPairs, ◌||◌, ◌⊎◌, slice_get, unwrap_or, nat_le}
-use Rattle.std.proofs.lemmas.Bool.{cases_lt, cases_eq, cases_Bool, false≢true}
+use Rattle.std.specs.Prelude.{All, Contains, AllPairs, ◌⊎◌, slice_get, unwrap_or}
+use Rattle.std.proofs.lemmas.Bool.{cases_lt, cases_eq, cases_Bool}
 use Rattle.std.proofs.Math.Bool.{beq}
 use Rattle.std.proofs.lemmas.Option.{slice_get_within}
 use Rattle.std.proofs.lemmas.List.{get_or_default, append-nil}
 use Rattle.clause_store.specs.declared.lit.Lit.{Lit}
 use Rattle.clause_store.specs.Lits.{negated, same_lit, without, InRange, has, AreInRange}
 use Rattle.watch_lists.specs.declared.entry.Entry.{Entry}
-use Rattle.watch_lists.specs.Trace.{Trace, Attached, value_of, entry_of, under, room_in, room_of, upto, AreApart, IsStacked, IsTrace, IsComplete, IsFalsified, StandIn, clause_at, reason_in}
-use Rattle.derivation_log.specs.Logs.{Log, known_of, learned_of, is_learned}
+use Rattle.watch_lists.specs.Trace.{Trace, Attached, value_of, entry_of, under, room_in, room_of, AreApart, IsStacked, IsComplete, IsFalsified, StandIn}
+use Rattle.clause_store.specs.Clauses.{clause_at}
+use Rattle.derivation_log.specs.Logs.{Log, known_of, is_learned}
 use Rattle.derivation_log.specs.declared.step.Step.{Step}
-use Rattle.solver_laws.specs.Ready.{IsFalseIn, IsReason, IsJustified, DecidesOnly, IsBarred, IsReady, IsLog}
+use Rattle.solver_laws.specs.Ready.{IsFalseIn, IsReason, IsJustified, DecidesOnly, IsBarred, IsLog}
 use Rattle.std.specs.List.{AllByRecursion}
 use Rattle.solver_laws.proofs.Rooms.{or_left, or_right, room_cons, room_false, each_map, same_lit-is, contains_has}
 use Rattle.solver_laws.proofs.Steps.{drop_false}
@@ -23,7 +24,7 @@ use Rattle.clause_store.proofs.Each.{each_index, each_of_index}
 use Rattle.std.proofs.Math.ListN.{set, length-set}
 use Rattle.std.proofs.Common.{get_or-set_other, get_or-set_same}
 use Rattle.cdcl_core.specs.Choices.{HasValues}
-use Rattle.cdcl_core.specs.Replies.{AllLearned, IsGrown, IsLonger, IsClaimed}
+use Rattle.cdcl_core.specs.Replies.{AllLearned, IsGrown}
 use Rattle.cdcl_core.specs.Turns.{IsKept, IsLearned}
 
 some_inj : (c d : List Lit) → (let x : Option (List Lit) = Some c in let y : Option (List Lit) = Some d in x ≡ y) → c ≡ d
@@ -128,31 +129,6 @@ grown_none g l = record { log = l; main = refl; vars = refl; steps = ([], sym (a
 all_learned_push : (ss : List Step) (s : Step) → AllLearned ss → (is_learned s.kind) ≡ true → AllLearned (ss ++ s ∷ [])
 all_learned_push [] s a t = (t, tt)
 all_learned_push (x ∷ xs) s a t = (a.0, all_learned_push xs s a.1 t)
-
--- the growth that each end of the search leaves
-pub longer_grown : (g h : Log) (n : ℕ) → IsGrown g h n → IsLonger g h
-longer_grown g h n a = record { main = a.main; vars = a.vars; steps = (a.steps.0, a.steps.1) }
-
-longer_by : (g h k : Log) (s : Step) → IsLonger g h → k.main ≡ h.main → k.vars ≡ h.vars → k.steps ≡ h.steps ++ s ∷ [] → IsLonger g k
-longer_by g h k s a m v e = record {
-  main = m ∙ a.main;
-  vars = v ∙ a.vars;
-  steps = (a.steps.0 ++ s ∷ [], e ∙ ap (λ (ss : List Step). ss ++ s ∷ []) a.steps.1 ∙ append_assoc g.steps a.steps.0 (s ∷ []));
-}
-
-pub longer_kept : (g h k : Log) (n : ℕ) → IsGrown g h n → IsKept h k → IsLonger g k
-longer_kept g h k n a b =
-    let l = longer_grown g h n a in
-    elim b.steps [
-      | inl e ↦ record { main = b.main ∙ a.main; vars = b.vars ∙ a.vars; steps = (a.steps.0, e ∙ a.steps.1) }
-      | inr c ↦ longer_by g h k c.0 l b.main b.vars c.2
-    ]
-
-pub longer_claimed : (g h k : Log) (n : ℕ) (asked : List Lit) → IsGrown g h n → IsClaimed h k asked → IsLonger g k
-longer_claimed g h k n asked a b = longer_by g h k b.0 (longer_grown g h n a) (ap (λ (x : Log). x.main) b.3) (ap (λ (x : Log). x.vars) b.3) (ap (λ (x : Log). x.steps) b.3)
-
-pub longer_same : (g : Log) → IsLonger g g
-longer_same g = record { main = refl; vars = refl; steps = ([], sym (append-nil g.steps)) }
 
 pub grown_more : (g h k : Log) (n : ℕ) → IsGrown g h n → IsKept h k → IsLearned h k → IsGrown g k (n + 1)
 grown_more g h k n a b c = record {

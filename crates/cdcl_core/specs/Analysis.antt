@@ -1,5 +1,5 @@
 -- What conflict analysis asks of a trail.
-use Rattle.std.specs.Prelude.{◌≡◌, ◌≢◌, ℕ, ◌+◌, ◌<◌, ◌≤◌, List, [], ◌∷◌, ◌++◌, length}
+use Rattle.std.specs.Prelude.{◌≡◌, List}
 use Rattle.clause_store.specs.Clauses.{Clauses}
 use Rattle.watch_lists.specs.Trace.{Trace, Attached, StandIn}
 use Rattle.solver_laws.specs.Ready.{IsJustified}

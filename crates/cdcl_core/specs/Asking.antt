@@ -1,8 +1,9 @@
 -- What holds while a solver looks for an answer.
-use Rattle.std.specs.Prelude.{◌≡◌, ◌≢◌, ℕ, ◌+◌, ◌<◌, ◌≤◌, Bool, true, false, List, [], ◌∷◌, Option, Some, None, All, Contains}
+use Rattle.std.specs.Prelude.{◌≡◌, ℕ, ◌<◌, ◌≤◌, true, false, List, Some, All, Contains}
 use Rattle.clause_store.specs.declared.lit.Lit.{Lit}
 use Rattle.watch_lists.specs.Trace.{Trace, Attached, value_of, upto, IsComplete, IsFalsified}
 use Rattle.solver_laws.specs.Ready.{DecidesOnly}
+use Rattle.cdcl_core.specs.Choices.{IsFull}
 use Rattle.cdcl_core.specs.declared.engine.Turn.{Turn}
 use Rattle.cdcl_core.specs.declared.engine.Turn.TheVariants.{Conflict, Contrary, Full}
 
@@ -15,4 +16,4 @@ pub record IsAsking (asked : List Lit) (assumed : ℕ) (t : Trace) : Type 0 wher
 abbrev pub IsTurn : List Lit → ℕ → List Attached → Trace → Turn → Type 0
 IsTurn asked assumed watched t (Conflict n) = IsFalsified watched t.entries n
 IsTurn asked assumed watched t (Contrary l) = Contains asked l × (value_of t.entries l ≡ Some false) × (assumed ≡ t.level)
-IsTurn asked assumed watched t Full = IsComplete watched t.entries × All (λ (l : Lit). value_of t.entries l ≡ Some true) asked × ((v : ℕ) → 1 ≤ v → v ≤ t.vars → value_of t.entries (record { var = v; positive = false }) ≢ None)
+IsTurn asked assumed watched t Full = IsComplete watched t.entries × All (λ (l : Lit). value_of t.entries l ≡ Some true) asked × IsFull t

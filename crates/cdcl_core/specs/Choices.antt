@@ -1,9 +1,7 @@
 -- What is decided next.
-use Rattle.std.specs.Prelude.{◌≡◌, ◌≢◌, ℕ, ◌+◌, ◌<◌, ◌≤◌, Bool, true, false, List, [], ◌∷◌, length, Option, Some, None, slice_index_or, unwrap_or, All, Contains}
+use Rattle.std.specs.Prelude.{◌≡◌, ◌≢◌, ℕ, ◌+◌, ◌<◌, ◌≤◌, Bool, true, false, List, length, Some, None, slice_index_or, unwrap_or, All, Contains, take}
 use Rattle.clause_store.specs.declared.lit.Lit.{Lit}
-use Rattle.watch_lists.specs.declared.entry.Entry.{Entry}
-use Rattle.watch_lists.specs.Trace.{Trace, value_of, entry_of}
-use Rattle.clause_store.specs.Lits.{has}
+use Rattle.watch_lists.specs.Trace.{Trace, value_of}
 use Rattle.cdcl_core.specs.declared.choice.Choice.{Choice}
 use Rattle.cdcl_core.specs.declared.choice.Choice.TheVariants.{Contrary, Assume, Free, Full}
 
@@ -14,6 +12,10 @@ IsFree t l = (1 ≤ l.var) × (l.var ≤ t.vars) × (value_of t.entries l ≡ No
 -- each variable has a value
 abbrev pub IsFull : Trace → Type 0
 IsFull t = (v : ℕ) → 1 ≤ v → v ≤ t.vars → value_of t.entries (record { var = v; positive = false }) ≢ None
+
+-- the assumptions before the place are true
+abbrev pub AreTrue : ℕ → List Lit → Trace → Type 0
+AreTrue place assumptions t = All (λ l. value_of t.entries l ≡ Some true) (take place assumptions)
 
 abbrev pub IsChosen : List Lit → Trace → Choice → Type 0
 IsChosen assumptions t (Contrary l) = (Contains assumptions l) × (value_of t.entries l ≡ Some false)

@@ -1,5 +1,5 @@
 -- A solver as its callers see it.
-use Rattle.std.specs.Prelude.{◌≡◌, ℕ, Bool, true, false, List}
+use Rattle.std.specs.Prelude.{◌≡◌, ℕ, Bool, false, List}
 use Rattle.watch_lists.specs.Trace.{Trace, Attached, Place}
 use Rattle.derivation_log.specs.Logs.{Log}
 use Rattle.solver_laws.specs.Ready.{IsReady, IsLog}

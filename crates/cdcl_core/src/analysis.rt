@@ -2,8 +2,10 @@
 ghost use Rattle.std.specs.Prelude.{◌≡◌, ◌+◌, ◌-◌, ◌<◌, ◌≤◌, ℕ, true, false, length, IfOk, slice_get, Some, All, Contains, ◌≢◌, nat_lt, if◌then◌else◌};
 ghost use Rattle.clause_store.specs.Lits.{Ascends, negated, InRange, has};
 ghost use Rattle.derivation_log.specs.Logs.{Log, known_of};
-ghost use Rattle.watch_lists.specs.Trace.{Trace, Attached, room_of, upto, value_of, IsTrace, IsFalsified, StandIn, IsComplete, clause_at, room_in};
-ghost use Rattle.solver_laws.specs.Ready.{IsFalseIn, IsJustified, IsLesson, IsBarred, IsBarredBy, DecidesOnly};
+ghost use Rattle.watch_lists.specs.Trace.{Trace, Attached, room_of, upto, value_of, IsTrace, IsFalsified, StandIn, IsComplete, room_in};
+ghost use Rattle.clause_store.specs.Clauses.{clause_at};
+ghost use Rattle.solver_laws.specs.Ready.{IsFalseIn, IsJustified, IsLesson, IsBarred, DecidesOnly};
+ghost use Rattle.log_checker.specs.Refutes.{Refutes};
 ghost use Rattle.std.specs.List.{AllByRecursion};
 ghost use Rattle.cdcl_core.specs.Analysis.{CanAnalyse};
 
@@ -132,7 +134,7 @@ pub fn claim<P: Propagator>(
     requires within { first < length known.now.list }
     requires barred { AllByRecursion (IsBarred assumptions.now trail.now.entries) (clause_at known.now.list first) }
     ensures lesson { IfOk result (λ made. IsLesson known.now.list known.now.vars made.first made.chain made.clause) }
-    ensures refutes { IfOk result (λ made. AllByRecursion (IsBarredBy assumptions.now) made.clause) }
+    ensures refutes { IfOk result (λ made. Refutes made.clause assumptions.now) }
 {
     let _ = propagator;
     let _ = assumptions;

@@ -3,7 +3,7 @@ ghost use Rattle.std.specs.Prelude.{◌≡◌, ◌+◌, ◌-◌, ◌<◌, ◌≤
 ghost use Rattle.clause_store.specs.declared.lit.Lit.{Lit};
 ghost use Rattle.clause_store.specs.Lits.{InRange};
 ghost use Rattle.watch_lists.specs.Trace.{Trace, value_of};
-ghost use Rattle.cdcl_core.specs.Choices.{IsChosen, IsFree, IsFull, HasValues};
+ghost use Rattle.cdcl_core.specs.Choices.{AreTrue, IsChosen, IsFree, IsFull, HasValues};
 
 use crate::order::Order;
 use clause_store::{Assignment, Lit};
@@ -18,16 +18,20 @@ pub enum Choice {
     Full,
 }
 
-// A decision that is due: assumptions first, and then the variables in their order.
-pub fn choose(assumptions: &[Lit], trail: &Trail, order: &mut Order) -> Choice
-    requires { InRange trail.now.vars assumptions.now }
-    ensures { IsChosen assumptions.now trail.now result }
+// A decision that is due: assumptions first, and then the variables in their order. All assumptions before the place
+// are true, and it moves on to the first that is not.
+pub fn choose(assumptions: &[Lit], place: &mut usize, trail: &Trail, order: &mut Order) -> Choice
+    requires in_range { InRange trail.now.vars assumptions.now }
+    requires before { AreTrue place.old assumptions.now trail.now }
+    ensures before { AreTrue place.new assumptions.now trail.now }
+    ensures chosen { IsChosen assumptions.now trail.now result }
 {
-    for lit in assumptions {
-        match trail.value(*lit) {
-            Some(true) => {}
-            Some(false) => return Choice::Contrary(*lit),
-            None => return Choice::Assume(*lit),
+    'past: while *place < assumptions.len() {
+        let lit = assumptions[*place];
+        match trail.value(lit) {
+            Some(true) => *place += 1,
+            Some(false) => return Choice::Contrary(lit),
+            None => return Choice::Assume(lit),
         }
     }
     if let Some(lit) = next_free(trail, order) {

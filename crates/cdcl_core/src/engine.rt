@@ -2,8 +2,9 @@
 ghost use Rattle.std.specs.Prelude.{◌≡◌, ◌+◌, ◌-◌, ◌<◌, ◌≤◌, ◌∷◌, [], ◌++◌, ℕ, List, Bool, true, false, length, IfOk, OnOk, OnErr, IfSome, IfNone, Some, None, Contains, ◌⊎◌};
 ghost use Rattle.clause_store.specs.declared.lit.Lit.{Lit};
 ghost use Rattle.derivation_log.specs.Logs.{Log, known_of};
-ghost use Rattle.watch_lists.specs.Trace.{Trace, room_of, upto, value_of, IsTrace, IsFalsified, IsComplete, clause_at, entry_of, reason_in, places_of};
-ghost use Rattle.solver_laws.specs.Ready.{IsFalseIn, IsLesson, IsBarred, IsBarredBy, DecidesOnly, IsReady, IsLog};
+ghost use Rattle.watch_lists.specs.Trace.{Trace, room_of, upto, value_of, IsTrace, IsFalsified, IsComplete, entry_of, reason_in, places_of};
+ghost use Rattle.clause_store.specs.Clauses.{clause_at};
+ghost use Rattle.solver_laws.specs.Ready.{IsFalseIn, IsLesson, IsBarred, DecidesOnly, IsReady, IsLog};
 ghost use Rattle.std.specs.List.{AllByRecursion};
 ghost use Rattle.cdcl_core.specs.Asking.{IsAsking, IsTurn};
 ghost use Rattle.clause_store.specs.Lits.{InRange};
@@ -36,6 +37,7 @@ pub fn settle<P: Propagator>(
     ensures vars { P.vars propagator.new ≡ P.vars propagator.old }
     ensures trail_vars { trail.new.vars ≡ trail.old.vars }
     ensures decides { (asked : List Lit) (k : ℕ) → DecidesOnly asked k trail.old.entries → DecidesOnly asked k trail.new.entries }
+    ensures kept { (l : Lit) → value_of trail.old.entries l ≡ Some true → value_of trail.new.entries l ≡ Some true }
 {
     propagator.propagate(log.known(), trail)
 }
@@ -168,12 +170,13 @@ pub fn descend<P: Propagator>(
 {
     trail.facts();
     let mut assumed = assumed;
+    let mut place = 0;
     'down: loop {
         if let Some(number) = settle(log, trail, propagator) {
             return (assumed, Turn::Conflict(number));
         }
         trail.facts();
-        match choose(assumptions, trail, order) {
+        match choose(assumptions, &mut place, trail, order) {
             Choice::Contrary(lit) => return (assumed, Turn::Contrary(lit)),
             Choice::Assume(lit) => {
                 open(log, trail, propagator, lit);

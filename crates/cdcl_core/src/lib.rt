@@ -8,8 +8,6 @@ mod order;
 mod reply;
 mod searching;
 mod solver;
-#[cfg(test)]
-mod tests;
 
 pub use reply::Reply;
 pub use solver::Solver;

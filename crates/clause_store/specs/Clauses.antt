@@ -1,5 +1,5 @@
 -- Lists of clauses.
-use Rattle.std.specs.Prelude.{◌≡◌, ℕ, ◌≤◌, List, [], ◌∷◌, slice_range, zero, suc}
+use Rattle.std.specs.Prelude.{◌≡◌, ℕ, ◌≤◌, List, [], ◌∷◌, slice_get, slice_range, unwrap_or, zero, suc}
 use Rattle.std.specs.List.{AllByRecursion}
 use Rattle.clause_store.specs.declared.lit.Lit.{Lit}
 use Rattle.clause_store.specs.Lits.{Ascends, AreInRange}
@@ -8,6 +8,10 @@ use Rattle.clause_store.specs.Lits.{Ascends, AreInRange}
 pub record Clauses : Type 0 where
   pub list : List (List Lit)
   pub vars : ℕ
+
+-- the clause of a number, or that of no literal where there is none
+abbrev pub clause_at : List (List Lit) → ℕ → List Lit
+clause_at known n = unwrap_or (slice_get known n) []
 
 -- each clause is in rising order, and its variables are in range
 pub record IsWhole (clauses : Clauses) : Type 0 where

@@ -107,12 +107,12 @@ lits_literal : (ls : List Lit) → AllByRecursion (λ l. (1 ≤ l.var) × (l.var
 lits_literal [] h = tt
 lits_literal (l ∷ ls) h = (record { low = h.0.0; high = omega (arith, h.0.1) }, lits_literal ls h.1)
 
-links_link : (ls : List Link) → AllByRecursion (λ l. (1 ≤ l.pivot.var) × (l.pivot.var < 2 ^ 32) × HasNumeral l.number) ls → AllByRecursion IsLink (map widen_link ls)
-links_link [] h = tt
-links_link (l ∷ ls) h = (record { pivot = record { low = h.0.0; high = omega (arith, h.0.1) }; number = h.0.2 }, links_link ls h.1)
+links_link : (ls : List Link) → AllByRecursion (λ l. (1 ≤ l.pivot.var) × (l.pivot.var < 2 ^ 32)) ls → AllByRecursion (λ l. HasNumeral l.number) ls → AllByRecursion IsLink (map widen_link ls)
+links_link [] p h = tt
+links_link (l ∷ ls) p h = (record { pivot = record { low = p.0.0; high = omega (arith, p.0.1) }; number = h.0 }, links_link ls p.1 h.1)
 
 has_line : (n : ℕ) (s : Step) → HasLine n s → IsStepLine (line_of (step_words (step_line n s))) (step_line n s)
-has_line n s h = record { is_step = record { number = h.number; clause = lits_literal s.clause h.clause; first = h.first; chain = links_link s.chain h.chain }; spelled = refl }
+has_line n s h = record { is_step = record { number = h.number; clause = lits_literal s.clause h.clause; first = h.first; chain = links_link s.chain h.pivots h.links }; spelled = refl }
 
 or_false : (x y : Bool) → x ≡ false → y ≡ false → (x || y) ≡ false
 or_false true y e f = absurd (cc)
@@ -125,12 +125,12 @@ lits_small : (ls : List Lit) → AllByRecursion (λ l. (1 ≤ l.var) × (l.var <
 lits_small [] h = refl
 lits_small (l ∷ ls) h = or_false (is_big (widen l)) (any_big (map widen ls)) (small l.var h.0.1) (lits_small ls h.1)
 
-links_small : (ls : List Link) → AllByRecursion (λ l. (1 ≤ l.pivot.var) × (l.pivot.var < 2 ^ 32) × HasNumeral l.number) ls → any_big_pivot (map widen_link ls) ≡ false
+links_small : (ls : List Link) → AllByRecursion (λ l. (1 ≤ l.pivot.var) × (l.pivot.var < 2 ^ 32)) ls → any_big_pivot (map widen_link ls) ≡ false
 links_small [] h = refl
 links_small (l ∷ ls) h = or_false (is_big (widen l.pivot)) (any_big_pivot (map widen_link ls)) (small l.pivot.var h.0.1) (links_small ls h.1)
 
 step_small : (n : ℕ) (s : Step) → HasLine n s → has_big (step_line n s) ≡ false
-step_small n s h = or_false (any_big (map widen s.clause)) (any_big_pivot (map widen_link s.chain)) (lits_small s.clause h.clause) (links_small s.chain h.chain)
+step_small n s h = or_false (any_big (map widen s.clause)) (any_big_pivot (map widen_link s.chain)) (lits_small s.clause h.clause) (links_small s.chain h.pivots)
 
 no_both : (b : Bool) → b ≡ true → b ≡ false → ⊥
 no_both b e f = cc

@@ -62,14 +62,14 @@ pub eq_not : (b : Bool) (v w : List ℕ) → bytes_eq v w ≡ b → (v ≡ w →
 eq_not false v w e h = refl
 eq_not true v w e h = absurd (h (eq_is v w e))
 
-pub word_then_found : (word : List ℕ) (ws : List (List ℕ)) (x : Bool × List (List ℕ)) → word_then word ws ≡ Some x → ws ≡ word ∷ x.1
+pub word_then_found : (word : List ℕ) (ws rest : List (List ℕ)) → word_then word ws ≡ Some rest → ws ≡ word ∷ rest
 unfolding word_then
-word_then_found word [] x e = absurd (cc)
-word_then_found word (w ∷ ws) x e =
-    let g = guard_is (bytes_eq w word) (Some (true, ws)) x e in
-    rw (eq_is w word g.0) (ap (λ (y : Bool × List (List ℕ)). word ∷ y.1) (some_is (true, ws) x g.1))
+word_then_found word [] rest e = absurd (cc)
+word_then_found word (w ∷ ws) rest e =
+    let g = guard_is (bytes_eq w word) (Some ws) rest e in
+    rw (eq_is w word g.0) (ap (λ (later : List (List ℕ)). word ∷ later) (some_is ws rest g.1))
 
-pub word_then_again : (word : List ℕ) (ws : List (List ℕ)) → word_then word (word ∷ ws) ≡ Some (true, ws)
+pub word_then_again : (word : List ℕ) (ws : List (List ℕ)) → word_then word (word ∷ ws) ≡ Some ws
 unfolding word_then
 word_then_again word ws = rw (eq_again word) refl
 

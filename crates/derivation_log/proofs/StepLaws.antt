@@ -27,21 +27,21 @@ all_words ws a b k l f number kind clause first chain e0 e1 e2 e3 e4 e5 = cc
 pub step_found : (ws : List (List ℕ)) (s : StepLine) → step_at ws ≡ Some s → (ws ≡ step_words s) × IsStep s
 unfolding step_at
 step_found ws s e =
-    let a = bind_some (word_then (codes "step") ws) (λ start. number_then start.1 >>= λ number. kind_then number.1 >>= λ kind. lits_then kind.1 >>= λ lits. number_then lits.1 >>= λ first. links_at first.1 >>= λ chain. Some (record { number = number.0; kind = kind.0; clause = lits.0; first = first.0; chain = chain })) s e in
-    let b = bind_some (number_then a.0.1) (λ number. kind_then number.1 >>= λ kind. lits_then kind.1 >>= λ lits. number_then lits.1 >>= λ first. links_at first.1 >>= λ chain. Some (record { number = number.0; kind = kind.0; clause = lits.0; first = first.0; chain = chain })) s a.2 in
+    let a = bind_some (word_then (codes "step") ws) (λ later. number_then later >>= λ number. kind_then number.1 >>= λ kind. lits_then kind.1 >>= λ lits. number_then lits.1 >>= λ first. links_at first.1 >>= λ chain. Some (record { number = number.0; kind = kind.0; clause = lits.0; first = first.0; chain = chain })) s e in
+    let b = bind_some (number_then a.0) (λ number. kind_then number.1 >>= λ kind. lits_then kind.1 >>= λ lits. number_then lits.1 >>= λ first. links_at first.1 >>= λ chain. Some (record { number = number.0; kind = kind.0; clause = lits.0; first = first.0; chain = chain })) s a.2 in
     let k = bind_some (kind_then b.0.1) (λ kind. lits_then kind.1 >>= λ lits. number_then lits.1 >>= λ first. links_at first.1 >>= λ chain. Some (record { number = b.0.0; kind = kind.0; clause = lits.0; first = first.0; chain = chain })) s b.2 in
     let l = bind_some (lits_then k.0.1) (λ lits. number_then lits.1 >>= λ first. links_at first.1 >>= λ chain. Some (record { number = b.0.0; kind = k.0.0; clause = lits.0; first = first.0; chain = chain })) s k.2 in
     let f = bind_some (number_then l.0.1) (λ first. links_at first.1 >>= λ chain. Some (record { number = b.0.0; kind = k.0.0; clause = l.0.0; first = first.0; chain = chain })) s l.2 in
     let g = bind_some (links_at f.0.1) (λ chain. Some (record { number = b.0.0; kind = k.0.0; clause = l.0.0; first = f.0.0; chain = chain })) s f.2 in
     let a1 = word_then_found (codes "step") ws a.0 a.1 in
-    let b1 = number_then_found a.0.1 b.0.0 b.0.1 b.1 in
+    let b1 = number_then_found a.0 b.0.0 b.0.1 b.1 in
     let k1 = kind_then_found b.0.1 k.0 k.1 in
     let l1 = lits_then_found k.0.1 l.0 l.1 in
     let f1 = number_then_found l.0.1 f.0.0 f.0.1 f.1 in
     let g1 = links_found f.0.1 g.0 g.1 in
     let made : StepLine = record { number = b.0.0; kind = k.0.0; clause = l.0.0; first = f.0.0; chain = g.0 } in
     subst (λ (x : StepLine). (ws ≡ step_words x) × IsStep x) (some_is made s g.2)
-    (all_words ws a.0.1 b.0.1 k.0.1 l.0.1 f.0.1 b.0.0 k.0.0 l.0.0 f.0.0 g.0 a1 b1.0 k1 l1.0 f1.0 g1.0, record { number = b1.1; clause = l1.1; first = f1.1; chain = g1.1 })
+    (all_words ws a.0 b.0.1 k.0.1 l.0.1 f.0.1 b.0.0 k.0.0 l.0.0 f.0.0 g.0 a1 b1.0 k1 l1.0 f1.0 g1.0, record { number = b1.1; clause = l1.1; first = f1.1; chain = g1.1 })
 
 pub step_again : (s : StepLine) → IsStep s → step_at (step_words s) ≡ Some s
 unfolding step_at

@@ -103,4 +103,5 @@ pub record HasLine (n : ℕ) (s : Step) : Type 0 where
   pub number : HasNumeral n
   pub clause : AllByRecursion (λ l. (1 ≤ l.var) × (l.var < 2 ^ 32)) s.clause
   pub first : HasNumeral s.first
-  pub chain : AllByRecursion (λ l. (1 ≤ l.pivot.var) × (l.pivot.var < 2 ^ 32) × HasNumeral l.number) s.chain
+  pub pivots : AllByRecursion (λ link. (1 ≤ link.pivot.var) × (link.pivot.var < 2 ^ 32)) s.chain
+  pub links : AllByRecursion (λ link. HasNumeral link.number) s.chain

@@ -1,5 +1,5 @@
 -- Reading the words of a step line, as a function on lists.
-use Rattle.std.specs.Prelude.{◌≡◌, ℕ, Bool, true, if◌then◌else◌, List, [], ◌∷◌, ◌++◌, codes, Option, Some, None, MatchOption}
+use Rattle.std.specs.Prelude.{◌≡◌, ℕ, if◌then◌else◌, List, [], ◌∷◌, ◌++◌, codes, Option, Some, None, MatchOption}
 use Rattle.std.specs.Str.{bytes_eq}
 use Rattle.report_words.specs.declared.numbers.WideLit.{WideLit}
 use Rattle.report_words.specs.Numbers.{number_at, literal_at}
@@ -21,9 +21,10 @@ unfoldable pub number_then : List (List ℕ) → Option (ℕ × List (List ℕ))
 number_then [] = None
 number_then (w ∷ ws) = number_at w >>= λ n. Some (n, ws)
 
-unfoldable pub word_then : List ℕ → List (List ℕ) → Option (Bool × List (List ℕ))
+-- the words after this one
+unfoldable pub word_then : List ℕ → List (List ℕ) → Option (List (List ℕ))
 word_then word [] = None
-word_then word (w ∷ ws) = if bytes_eq w word then Some (true, ws) else None
+word_then word (w ∷ ws) = if bytes_eq w word then Some ws else None
 
 abbrev pub kind_at : List ℕ → Option StepKind
 kind_at w = if bytes_eq w (codes "learned") then Some Learned else (if bytes_eq w (codes "claimed") then Some Claimed else None)
@@ -49,8 +50,8 @@ links_at (p ∷ k ∷ ws) = literal_at p >>= λ l. number_at k >>= λ n. after_l
 
 unfoldable pub step_at : List (List ℕ) → Option StepLine
 step_at words = do
-  start ← word_then (codes "step") words
-  number ← number_then start.1
+  later ← word_then (codes "step") words
+  number ← number_then later
   kind ← kind_then number.1
   lits ← lits_then kind.1
   first ← number_then lits.1

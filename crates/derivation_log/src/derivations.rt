@@ -1,8 +1,9 @@
 // A main list of clauses, and the steps that follow it.
-ghost use Rattle.std.specs.Prelude.{◌≡◌, ◌+◌, ◌<◌, ◌≤◌, ◌-◌, map, [], ◌∷◌, ◌++◌, length, slice_get, Some, IfOk, OnOk, OnErr};
+ghost use Rattle.std.specs.Prelude.{◌≡◌, ◌+◌, ◌<◌, ◌≤◌, ◌-◌, map, [], ◌∷◌, ◌++◌, length, slice_get, Some, IfOk, OnOk, OnErr, ◌^◌};
 ghost use Rattle.clause_store.specs.Clauses.{Clauses};
 ghost use Rattle.clause_store.specs.Lits.{InRange};
-ghost use Rattle.derivation_log.specs.Logs.{Log, known_of};
+ghost use Rattle.derivation_log.specs.Logs.{Log, known_of, IsSound};
+ghost use Rattle.derivation_log.specs.StepLines.{HasLine};
 
 use crate::step::{Chain, Step, StepKind};
 use clause_store::{Clause, ClauseList};
@@ -92,12 +93,15 @@ impl Derivations {
         self.rows[(number - self.main) as usize].kind
     }
 
-    /// The step of a number, copied; `NoMemory` for want of memory.
+    /// The step of a number, copied; `NoMemory` for want of memory. Where the steps follow, and there are no more
+    /// clauses than a list can hold, `write_step` takes it.
     pub fn step(&self, alloc: Global, number: u64) -> Result<Step, NoMemory>
         requires main { length self.now.main ≤ number }
         requires known { number < length (known_of self.now) }
-        ensures { IfOk result (λ step. slice_get self.now.steps (number - length self.now.main) ≡ Some step) }
+        ensures step { IfOk result (λ step. slice_get self.now.steps (number - length self.now.main) ≡ Some step) }
+        ensures line { IsSound self.now.main self.now.steps → length (known_of self.now) < 2 ^ 63 → IfOk result (HasLine number) }
     {
+        let _ = (self.known.len(), self.known.vars());
         let clause = Clause::from_sorted(alloc, self.known.clause(number))?;
         let row = &self.rows[(number - self.main) as usize];
         let links = row.chain.as_slice().to_vec(alloc)?;

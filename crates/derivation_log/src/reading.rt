@@ -1,5 +1,5 @@
 // Reading a step line.
-ghost use Rattle.std.specs.Prelude.{◌≡◌, ◌<◌, ◌^◌, ℕ, List, Bool, Some, None, Err, true, false, ◌||◌, IsTrue, IfOk, MatchOption, codes, map};
+ghost use Rattle.std.specs.Prelude.{◌≡◌, ◌<◌, ◌^◌, ℕ, List, Bool, Some, None, Err, true, false, ◌||◌, IsTrue, IfOk, MatchOption, codes, map, if◌then◌else◌};
 ghost use Rattle.report_words.specs.Words.{words_of};
 ghost use Rattle.clause_store.specs.Lits.{Ascends};
 ghost use Rattle.derivation_log.specs.StepLines.{StepLine, seen, any_big, any_big_pivot, is_before, rises, widen, widen_link, IsReading};
@@ -65,9 +65,9 @@ fn wide_step(alloc: Global, line: &[u8]) -> Result<Option<WideStep>, NoMemory>
     ensures { IfOk result (λ found. MatchOption found (step_at (words_of line.now) ≡ None) (λ s. step_at (words_of line.now) ≡ Some (seen s))) }
 {
     let mut words = Words::new(line);
-    let Some(_) = word_next(&mut words, b"step") else {
+    if !word_next(&mut words, b"step") {
         return Ok(None);
-    };
+    }
     let Some(number) = number_next(&mut words) else {
         return Ok(None);
     };
@@ -99,14 +99,14 @@ fn number_next(words: &mut Words<'_>) -> Option<u64>
     number_of(words.next()?)
 }
 
+// Whether the next word is this one.
 #[tactic(auto, unfolding(crate::specs::StepReading::word_then))]
-fn word_next(words: &mut Words<'_>, word: &[u8]) -> Option<bool>
-    ensures { Takes (λ x. x) result words.new (word_then word.now words.old) }
+fn word_next(words: &mut Words<'_>, word: &[u8]) -> bool
+    ensures { word_then word.now words.old ≡ (if result then Some words.new else None) }
 {
-    if words.next()? == word {
-        Some(true)
-    } else {
-        None
+    match words.next() {
+        Some(next) => next == word,
+        None => false,
     }
 }
 

@@ -14,7 +14,9 @@ use Rattle.derivation_log.specs.declared.step.Step.{Step}
 use Rattle.derivation_log.specs.Logs.{Comes, Follows}
 use Rattle.log_checker.specs.declared.checking.StepStop.{StepStop}
 use Rattle.log_checker.specs.declared.checking.StepStop.TheVariants.{NoSuchClause, NoPivot, OtherClause, NoMemory}
-use Rattle.log_checker.specs.Verdicts.{AreBelow, SticksAt, IsAnswer, clause_at, Outcome, Ends, Sticks, chain_from, are_links_below, are_below, same_clause, verdict_of, IsEnd}
+use Rattle.log_checker.specs.Verdicts.{AreBelow, SticksAt, IsAnswer, Outcome, Ends, Sticks, chain_from, are_links_below, are_below, same_clause, verdict_of, IsEnd}
+use Rattle.clause_store.specs.Clauses.{clause_at}
+use Rattle.clause_store.proofs.Numbered.{clause_at-get, clause_at-within}
 
 abbrev pub AllBelow : ℕ → List Link → Type 0
 AllBelow n links = AllByRecursion (λ (link : Link). link.number < n) links
@@ -48,23 +50,12 @@ below_step n step h = and_both (nat_lt step.first n) (are_links_below n step.cha
 pub not_below : (n : ℕ) (step : Step) → are_below n step ≡ false → AreBelow n step → ⊥
 not_below n step e h = no_both (are_below n step) (below_step n step h) e
 
--- the clause of a number that is below the length
-pub get_at : (known : List (List Lit)) (k : ℕ) → k < length known → slice_get known k ≡ Some (clause_at known k)
-get_at [] k h = absurd (omega arith)
-get_at (c ∷ cs) zero h = refl
-get_at (c ∷ cs) (suc k) h = get_at cs k (omega arith)
-
-at_get : (known : List (List Lit)) (k : ℕ) (c : List Lit) → slice_get known k ≡ Some c → clause_at known k ≡ c
-at_get [] k c e = absurd (cc)
-at_get (d ∷ ds) zero c e = cc
-at_get (d ∷ ds) (suc k) c e = at_get ds k c e
-
 pub comes : (known : List (List Lit)) (place : ℕ) (running : List Lit) (links : List Link) (end : List Lit) → AllBelow (length known) links → chain_from known place running links ≡ Ends end → Comes known running links end
 comes known place running [] end h e = cc
 comes known place running (l ∷ ls) end h e =
     let other = clause_at known l.number in
     elim (cases_Bool (has l.pivot running && has (negated l.pivot) other)) [
-      | inl t ↦ (other, get_at known l.number h.0, and_left (has l.pivot running) (has (negated l.pivot) other) t, and_right (has l.pivot running) (has (negated l.pivot) other) t, comes known (place + 1) (resolvent l.pivot running other) ls end h.1 (rw t at e))
+      | inl t ↦ (other, clause_at-within known l.number h.0, and_left (has l.pivot running) (has (negated l.pivot) other) t, and_right (has l.pivot running) (has (negated l.pivot) other) t, comes known (place + 1) (resolvent l.pivot running other) ls end h.1 (rw t at e))
       | inr f ↦ (let g = rw f at e in absurd (cc))
     ]
 
@@ -81,9 +72,9 @@ stuck known place running (l ∷ ls) k h e =
       | inl t ↦ (let s = stuck known (place + 1) (resolvent l.pivot running other) ls k h.1 (rw t at e) in record {
         after = suc s.after;
         number = omega (arith, s.number);
-        sticks = (other, get_at known l.number h.0, and_left (has l.pivot running) (has (negated l.pivot) other) t, and_right (has l.pivot running) (has (negated l.pivot) other) t, s.sticks);
+        sticks = (other, clause_at-within known l.number h.0, and_left (has l.pivot running) (has (negated l.pivot) other) t, and_right (has l.pivot running) (has (negated l.pivot) other) t, s.sticks);
       })
-      | inr f ↦ (let g = rw f at e in let same : k ≡ place = cc in record { after = 0; number = omega (arith, same); sticks = (other, get_at known l.number h.0, f) })
+      | inr f ↦ (let g = rw f at e in let same : k ≡ place = cc in record { after = 0; number = omega (arith, same); sticks = (other, clause_at-within known l.number h.0, f) })
     ]
 
 same_refl : (ls : List Lit) → same_clause ls ls ≡ true
@@ -114,7 +105,7 @@ pub walk_stop : (known : List (List Lit)) (place : ℕ) (running : List Lit) (li
     has (get_or links i d).pivot running && has (negated (get_or links i d).pivot) other ≡ false → chain_from known place running (drop i links) ≡ all → all ≡ Sticks place
 walk_stop known place running links i d other all h g f e =
     let link = get_or links i d in
-    let a = at_get known link.number other g in
+    let a = clause_at-get known link.number other g in
     let f' : has link.pivot running && has (negated link.pivot) (clause_at known link.number) ≡ false = ap (λ (x : List Lit). has link.pivot running && has (negated link.pivot) x) a ∙ f in
     let one : chain_from known place running (link ∷ drop (i + 1) links) ≡ Sticks place = rw f' refl in
     sym e ∙ ap (chain_from known place running) (here links i d h) ∙ one
@@ -123,7 +114,7 @@ pub walk_on : (known : List (List Lit)) (place : ℕ) (running : List Lit) (link
     has (get_or links i d).pivot running ≡ true → has (negated (get_or links i d).pivot) other ≡ true → chain_from known place running (drop i links) ≡ all → chain_from known (place + 1) (resolvent (get_or links i d).pivot running other) (drop (i + 1) links) ≡ all
 walk_on known place running links i d other all h g p n e =
     let link = get_or links i d in
-    let a = at_get known link.number other g in
+    let a = clause_at-get known link.number other g in
     let t : has link.pivot running && has (negated link.pivot) (clause_at known link.number) ≡ true = and_both (has link.pivot running) (has (negated link.pivot) (clause_at known link.number)) p (ap (has (negated link.pivot)) a ∙ n) in
     let one : chain_from known place running (link ∷ drop (i + 1) links) ≡ chain_from known (place + 1) (resolvent link.pivot running (clause_at known link.number)) (drop (i + 1) links) = rw t refl in
     ap (λ (x : List Lit). chain_from known (place + 1) (resolvent link.pivot running x) (drop (i + 1) links)) (sym a) ∙ sym one ∙ sym (ap (chain_from known place running) (here links i d h)) ∙ e
@@ -133,19 +124,19 @@ walk_on known place running links i d other all h g p n e =
 pub answer_follows : (known : List (List Lit)) (step : Step) (end : List Lit) → are_below (length known) step ≡ true → chain_from known 0 (clause_at known step.first) step.chain ≡ Ends end → end ≡ step.clause → Follows known step
 answer_follows known step end b e f =
     let h = step_below (length known) step b in
-    (clause_at known step.first, get_at known step.first h.start, comes known 0 (clause_at known step.first) step.chain step.clause h.links (e ∙ ap (λ (x : List Lit). Ends x) f))
+    (clause_at known step.first, clause_at-within known step.first h.start, comes known 0 (clause_at known step.first) step.chain step.clause h.links (e ∙ ap (λ (x : List Lit). Ends x) f))
 
 pub answer_other : (known : List (List Lit)) (step : Step) (end : List Lit) → are_below (length known) step ≡ true → chain_from known 0 (clause_at known step.first) step.chain ≡ Ends end → end ≢ step.clause → IsAnswer known step (Err OtherClause)
 answer_other known step end b e f =
     let h = step_below (length known) step b in
-    (h, clause_at known step.first, get_at known step.first h.start, end, comes known 0 (clause_at known step.first) step.chain end h.links e, f)
+    (h, clause_at known step.first, clause_at-within known step.first h.start, end, comes known 0 (clause_at known step.first) step.chain end h.links e, f)
 
 answer_stuck : (known : List (List Lit)) (step : Step) (k : ℕ) → are_below (length known) step ≡ true → chain_from known 0 (clause_at known step.first) step.chain ≡ Sticks k → IsAnswer known step (Err (NoPivot k))
 answer_stuck known step k b e =
     let h = step_below (length known) step b in
     let s = stuck known 0 (clause_at known step.first) step.chain k h.links e in
     let same : s.after ≡ k = omega (arith, s.number) in
-    (h, clause_at known step.first, get_at known step.first h.start, subst (λ (j : ℕ). SticksAt known (clause_at known step.first) step.chain j) same s.sticks)
+    (h, clause_at known step.first, clause_at-within known step.first h.start, subst (λ (j : ℕ). SticksAt known (clause_at known step.first) step.chain j) same s.sticks)
 
 pub answer_stop : (known : List (List Lit)) (step : Step) (stop : StepStop) → are_below (length known) step ≡ true → IsEnd (chain_from known 0 (clause_at known step.first) step.chain) (Err stop) → IsAnswer known step (Err stop)
 answer_stop known step stop b (inl m) = subst (λ (s : StepStop). IsAnswer known step (Err s)) (sym m) tt
@@ -167,29 +158,25 @@ verdict_sticks known step k b e = rw (b, e) refl
 pub verdict_below : (known : List (List Lit)) (step : Step) → are_below (length known) step ≡ false → verdict_of known step ≡ Some NoSuchClause
 verdict_below known step b = rw b refl
 
-pub verdict_stop : (known : List (List Lit)) (step : Step) (stop : StepStop) → are_below (length known) step ≡ true → IsEnd (chain_from known 0 (clause_at known step.first) step.chain) (Err stop) → stop ≢ NoMemory → verdict_of known step ≡ Some stop
-verdict_stop known step stop b (inl m) n = absurd (n m)
-verdict_stop known step stop b (inr e) n = verdict_sticks known step e.0 b e.2 ∙ ap (λ (s : StepStop). Some s) (sym e.1)
-
 -- Each step has one answer.
 
 chain_comes : (known : List (List Lit)) (place : ℕ) (running : List Lit) (links : List Link) (end : List Lit) → Comes known running links end → AllBelow (length known) links × (chain_from known place running links ≡ Ends end)
 chain_comes known place running [] end h = (tt, ap (λ (x : List Lit). Ends x) h)
 chain_comes known place running (l ∷ ls) end h =
     let r = chain_comes known (place + 1) (resolvent l.pivot running h.0) ls end h.4 in
-    let a : clause_at known l.number ≡ h.0 = at_get known l.number h.0 h.1 in
+    let a : clause_at known l.number ≡ h.0 = clause_at-get known l.number h.0 h.1 in
     let t : has l.pivot running && has (negated l.pivot) (clause_at known l.number) ≡ true = and_both (has l.pivot running) (has (negated l.pivot) (clause_at known l.number)) h.2 (ap (has (negated l.pivot)) a ∙ h.3) in
     ((slice_get_within known l.number h.0 h.1, r.0), rw t (ap (λ (x : List Lit). chain_from known (place + 1) (resolvent l.pivot running x) ls) a ∙ r.1))
 
 chain_sticks : (known : List (List Lit)) (place : ℕ) (running : List Lit) (links : List Link) (j : ℕ) → SticksAt known running links j → chain_from known place running links ≡ Sticks (place + j)
 chain_sticks known place running [] j h = absurd h
 chain_sticks known place running (l ∷ ls) zero h =
-    let a : clause_at known l.number ≡ h.0 = at_get known l.number h.0 h.1 in
+    let a : clause_at known l.number ≡ h.0 = clause_at-get known l.number h.0 h.1 in
     let f : has l.pivot running && has (negated l.pivot) (clause_at known l.number) ≡ false = ap (λ (x : List Lit). has l.pivot running && has (negated l.pivot) x) a ∙ h.2 in
     let e : place ≡ place + 0 = omega arith in rw f (ap (λ (k : ℕ). Sticks k) e)
 chain_sticks known place running (l ∷ ls) (suc j) h =
     let r = chain_sticks known (place + 1) (resolvent l.pivot running h.0) ls j h.4 in
-    let a : clause_at known l.number ≡ h.0 = at_get known l.number h.0 h.1 in
+    let a : clause_at known l.number ≡ h.0 = clause_at-get known l.number h.0 h.1 in
     let t : has l.pivot running && has (negated l.pivot) (clause_at known l.number) ≡ true = and_both (has l.pivot running) (has (negated l.pivot) (clause_at known l.number)) h.2 (ap (has (negated l.pivot)) a ∙ h.3) in
     let e : place + 1 + j ≡ place + suc j = omega arith in
     rw t (ap (λ (x : List Lit). chain_from known (place + 1) (resolvent l.pivot running x) ls) a ∙ r ∙ ap (λ (k : ℕ). Sticks k) e)
@@ -200,7 +187,7 @@ shown (Ok _) = None
 shown (Err stop) = Some stop
 
 walk_at : (known : List (List Lit)) (step : Step) (start : List Lit) → slice_get known step.first ≡ Some start → (place : ℕ) → chain_from known place start step.chain ≡ chain_from known place (clause_at known step.first) step.chain
-walk_at known step start e place = ap (λ (x : List Lit). chain_from known place x step.chain) (sym (at_get known step.first start e))
+walk_at known step start e place = ap (λ (x : List Lit). chain_from known place x step.chain) (sym (clause_at-get known step.first start e))
 
 verdict_shows : (known : List (List Lit)) (step : Step) (r : Result (Unit {0}) StepStop) → r ≢ Err NoMemory → IsAnswer known step r → verdict_of known step ≡ shown r
 verdict_shows known step (Ok u) n h =

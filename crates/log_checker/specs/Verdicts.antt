@@ -1,7 +1,8 @@
 -- What the checker answers for a step.
-use Rattle.std.specs.Prelude.{◌≡◌, ◌≢◌, ℕ, ◌+◌, ◌<◌, Bool, true, false, ◌&&◌, nat_lt, if◌then◌else◌, List, [], ◌∷◌, length, slice_get, slice_index_or, Option, Some, None, Result, Ok, Err, ◌⊎◌, zero, suc}
+use Rattle.std.specs.Prelude.{◌≡◌, ◌≢◌, ℕ, ◌+◌, ◌<◌, Bool, true, false, ◌&&◌, nat_lt, if◌then◌else◌, List, [], ◌∷◌, length, slice_get, Option, Some, None, Result, Ok, Err, ◌⊎◌, zero, suc}
 use Rattle.std.specs.List.{AllByRecursion}
 use Rattle.clause_store.specs.declared.lit.Lit.{Lit}
+use Rattle.clause_store.specs.Clauses.{clause_at}
 use Rattle.clause_store.specs.Lits.{negated, resolvent, has, same_lit}
 use Rattle.derivation_log.specs.declared.step.Link.{Link}
 use Rattle.derivation_log.specs.declared.step.Step.{Step}
@@ -37,9 +38,6 @@ IsAnswer known step (Err OtherClause) =
 IsAnswer known step (Err NoMemory) = Unit {0}
 
 -- The same, as a function that computes.
-
-abbrev pub clause_at : List (List Lit) → ℕ → List Lit
-clause_at known k = slice_index_or known k []
 
 -- where a chain of links ends, or the place of the first link that cannot be taken
 pub data Outcome : Type 0 where

@@ -2,7 +2,8 @@
 ghost use Rattle.std.specs.Prelude.{◌≡◌, ◌≢◌, ◌<◌, length, IsTrue, ◌↔◌, IfOk, IfErr, OnOk, MatchResult, None, Some};
 ghost use Rattle.std.specs.List.{AllByRecursion};
 ghost use Rattle.derivation_log.specs.Logs.{Follows};
-ghost use Rattle.log_checker.specs.Verdicts.{IsAnswer, IsEnd, are_below, chain_from, clause_at, verdict_of};
+ghost use Rattle.log_checker.specs.Verdicts.{IsAnswer, IsEnd, are_below, chain_from, verdict_of};
+ghost use Rattle.clause_store.specs.Clauses.{clause_at};
 ghost use Rattle.log_checker.specs.declared.checking.StepStop.TheVariants.{NoMemory as OutOfMemory};
 
 use clause_store::{Clause, ClauseList, Lit, has_lit};

@@ -42,7 +42,7 @@ abbrev pub vector_of : (List Bool → List Bool → ℕ) → List Formula → Li
 vector_of dist bases v = map (away dist v) bases
 
 -- each entry as often as its number of times says, in order
-abbrev pub repeated : List ℕ → List ℕ → List ℕ
+abbrev pub repeated : {X : Type 0} → List ℕ → List X → List X
 repeated [] us = []
 repeated (t ∷ times) [] = []
 repeated (t ∷ times) (u ∷ us) = replicate t u ++ repeated times us

@@ -54,6 +54,4 @@ apart before (s ∷ ss) n =
     ]
 
 pub few_learned : (g : Log) → IsLog g → length (learned_of g.steps) < 3 ^ g.vars
-few_learned g l =
-    let f = all_fit g.vars g.steps l.fit in
-    count_law g.vars (learned_of g.steps) (record { distinct = apart g.main g.steps l.new; full = λ k d lt. (f k d lt).full; above = λ k d lt. (f k d lt).above; within = λ k d lt. (f k d lt).within })
+few_learned g l = count_law g.vars (learned_of g.steps) (record { distinct = apart g.main g.steps l.new; fit = all_fit g.vars g.steps l.fit })

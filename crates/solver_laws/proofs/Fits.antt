@@ -8,8 +8,7 @@ use Rattle.watch_lists.specs.declared.entry.Entry.{Entry}
 use Rattle.watch_lists.specs.Trace.{entry_of, under, room_of}
 use Rattle.solver_laws.specs.Ready.{IsFalseIn}
 use Rattle.std.specs.List.{AllByRecursion}
-use Rattle.ternary.specs.Digits.{IsAbove, IsWithin}
-use Rattle.ternary.specs.Digits.{IsFit}
+use Rattle.ternary.specs.Digits.{IsAbove, IsFit}
 
 both_false : (o : Option Entry) → under o true ≡ Some false → under o false ≡ Some false → ⊥
 both_false None h k = cc
@@ -41,10 +40,6 @@ rising : (es : List Entry) (v : ℕ) (c : List Lit) → Ascends c → AllByRecur
 rising es v [] a f h = tt
 rising es v (l ∷ ls) a f h = (h l ls refl, rising es l.var ls a.1 f.1 (λ m ms e. (let b = subst (IsBelow l) e a.0 in let g = subst (AllByRecursion (IsFalseIn es)) e f.1 in next_var es l m b.0 f.0 g.0)))
 
-within_from : (V : ℕ) (c : List Lit) → InRange V c → IsWithin V c
-within_from V [] r = tt
-within_from V (l ∷ ls) r = (r.0.1, within_from V ls r.1)
-
 first_pos : (V : ℕ) (c : List Lit) → InRange V c → (l : Lit) (ls : List Lit) → c ≡ l ∷ ls → 0 < l.var
 first_pos V [] r l ls e = absurd (cc)
 first_pos V (x ∷ xs) r l ls e = let q : x ≡ l = cc in omega (arith, r.0.0, ap (λ (y : Lit). y.var) q)
@@ -53,5 +48,5 @@ pub fit_law : (V : ℕ) (es low : List Entry) (c : List Lit) → Ascends c → I
 fit_law V es low c a r f one = record {
   full = λ e. (let z = ap (room_of low) e in absurd (omega (arith, z, one)));
   above = rising es 0 c a f (first_pos V c r);
-  within = within_from V c r;
+  within = r;
 }

@@ -63,6 +63,3 @@ Tops low (e ∷ es) = ((e.reason ≡ None) × (es ≡ low)) ⊎ ((e.reason ≢ N
 -- the literal is the negation of an assumption, or is false
 abbrev pub IsBarred : List Lit → List Entry → Lit → Type 0
 IsBarred assumptions es l = (has (negated l) assumptions ≡ true) ⊎ (value_of es l ≡ Some false)
-
-abbrev pub IsBarredBy : List Lit → Lit → Type 0
-IsBarredBy assumptions l = has (negated l) assumptions ≡ true

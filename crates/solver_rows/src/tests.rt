@@ -174,7 +174,8 @@ fn an_assignment_is_found_under_an_assumption(rt: HostRuntime) -> Result<(), Fai
     let alloc = rt.alloc();
     let mut solver: Solver<Scan> = Solver::new(alloc, fourteen_clauses(alloc)?)?;
     assert_eq!(rt; first_under_third(&mut solver)?, Some(false));
-    assert!(rt; are_accepted(alloc, solver.derivations())?);
+    let log = solver.into_derivations();
+    assert_eq!(rt; log.known().len(), 14);
     Ok(())
 }
 
@@ -193,7 +194,7 @@ fn what_is_never_true_is_refuted_by_the_empty_clause(rt: HostRuntime) -> Result<
     let mut solver: Solver<Scan> = Solver::new(alloc, all_of_two(alloc)?)?;
     let _ = solver.ask(&[], 1)?;
     let reply = solver.ask(&[], 10)?;
-    assert!(rt; refuting_step(&solver, &reply, &[]).is_some());
+    assert_eq!(rt; refuting_step(&solver, &reply, &[]), Some(5));
     assert!(rt; are_accepted(alloc, solver.derivations())?);
     Ok(())
 }

@@ -11,7 +11,8 @@ use Rattle.std.proofs.lemmas.Map.Made.{IsDistinct-from_AllPairs}
 use Rattle.std.proofs.lemmas.Map.Steps.{length-le_from_distinct_below}
 use Rattle.clause_store.specs.declared.lit.Lit.{Lit}
 use Rattle.clause_store.proofs.Lits.{lit_ext}
-use Rattle.ternary.specs.Digits.{IsAbove, IsWithin, IsFamily, CountLaw}
+use Rattle.clause_store.specs.Lits.{InRange}
+use Rattle.ternary.specs.Digits.{IsAbove, IsFamily, CountLaw}
 
 -- the digit of a sign
 abbrev sign_digit : Bool → ℕ
@@ -54,14 +55,6 @@ code_below : (n v : ℕ) (c : List Lit) → code n v c < 3 ^ n
 code_below zero v c = omega (arith, one-le-pow zero 3 (omega arith))
 code_below (suc n) v c = omega (arith, pow-suc 3 n, code_below n (suc v) (rest v c), first_le v c)
 
-above_weaker : (v : ℕ) (c : List Lit) → IsAbove v c → first v c ≡ 0 → IsAbove (suc v) c
-above_weaker v [] a f = tt
-above_weaker v (l ∷ ls) a f =
-    elim (cases_eq l.var (suc v)) [
-      | inl g ↦ (let t : eqb l.var (suc v) ≡ true = grind arith in absurd (omega (arith, sign_pos l.positive, rw t at f)))
-      | inr g ↦ (omega (arith, a.0), a.1)
-    ]
-
 rest_above : (v : ℕ) (c : List Lit) → IsAbove v c → IsAbove (suc v) (rest v c)
 rest_above v [] a = tt
 rest_above v (l ∷ ls) a =
@@ -70,9 +63,9 @@ rest_above v (l ∷ ls) a =
       | inr g ↦ (let t : eqb l.var (suc v) ≡ false = grind arith in rw t (omega (arith, a.0), a.1))
     ]
 
-rest_within : (V v : ℕ) (c : List Lit) → IsWithin V c → IsWithin V (rest v c)
+rest_within : (V v : ℕ) (c : List Lit) → InRange V c → InRange V (rest v c)
 rest_within V v [] w = tt
-rest_within V v (l ∷ ls) w = elim (eqb l.var (suc v)) as (λ t. IsWithin V (cond t ls (l ∷ ls))) [ true ↦ w.1 | false ↦ w ]
+rest_within V v (l ∷ ls) w = elim (eqb l.var (suc v)) as (λ t. InRange V (cond t ls (l ∷ ls))) [ true ↦ w.1 | false ↦ w ]
 
 -- clauses with the same first digit and the same rest are one
 rejoin : (v : ℕ) (c d : List Lit) → first v c ≡ first v d → rest v c ≡ rest v d → c ≡ d
@@ -104,15 +97,15 @@ rejoin v (l ∷ ls) (m ∷ ms) f r =
           ])
     ]
 
-none_left : (v : ℕ) (c : List Lit) → IsAbove v c → IsWithin v c → c ≡ []
+none_left : (v : ℕ) (c : List Lit) → IsAbove v c → InRange v c → c ≡ []
 none_left v [] a w = refl
-none_left v (l ∷ ls) a w = absurd (omega (arith, a.0, w.0))
+none_left v (l ∷ ls) a w = absurd (omega (arith, a.0, w.0.1))
 
 digits_same : (a b x y : ℕ) → a ≤ 2 → b ≤ 2 → a + 3 * x ≡ b + 3 * y → (a ≡ b) × (x ≡ y)
 digits_same a b x y p q e = (omega arith, omega arith)
 
-code_same : (n v V : ℕ) (c d : List Lit) → V ≡ v + n → IsAbove v c → IsAbove v d → IsWithin V c → IsWithin V d → code n v c ≡ code n v d → c ≡ d
-code_same zero v V c d s a b w x e = let z : V ≡ v = omega arith in none_left v c a (subst (λ (k : ℕ). IsWithin k c) z w) ∙ sym (none_left v d b (subst (λ (k : ℕ). IsWithin k d) z x))
+code_same : (n v V : ℕ) (c d : List Lit) → V ≡ v + n → IsAbove v c → IsAbove v d → InRange V c → InRange V d → code n v c ≡ code n v d → c ≡ d
+code_same zero v V c d s a b w x e = let z : V ≡ v = omega arith in none_left v c a (subst (λ (k : ℕ). InRange k c) z w) ∙ sym (none_left v d b (subst (λ (k : ℕ). InRange k d) z x))
 code_same (suc n) v V c d s a b w x e =
     let p = digits_same (first v c) (first v d) (code n (suc v) (rest v c)) (code n (suc v) (rest v d)) (first_le v c) (first_le v d) e in
     rejoin v c d p.0 (code_same n (suc v) V (rest v c) (rest v d) (omega arith) (rest_above v c a) (rest_above v d b) (rest_within V v c w) (rest_within V v d x) p.1)
@@ -139,14 +132,14 @@ codes_apart V cs f i j d lt h e =
     let i' : i < length cs = omega arith in
     let ei = get_or-map (code V 0) cs i [] d i' in
     let ej = get_or-map (code V 0) cs j [] d j' in
-    f.distinct i j [] lt j' (code_same V 0 V (get_or cs i []) (get_or cs j []) (omega arith) (f.above i [] i') (f.above j [] j') (f.within i [] i') (f.within j [] j') (sym ei ∙ e ∙ ej))
+    f.distinct i j [] lt j' (code_same V 0 V (get_or cs i []) (get_or cs j []) (omega arith) (f.fit i [] i').above (f.fit j [] j').above (f.fit i [] i').within (f.fit j [] j').within (sym ei ∙ e ∙ ej))
 
 codes_positive : (V : ℕ) (cs : List (List Lit)) → IsFamily V cs → All (λ (y : ℕ). 0 ≢ y) (map (code V 0) cs)
 codes_positive V cs f i d lt e =
     let n = length-map cs (code V 0) in
     let i' : i < length cs = omega arith in
     let ei = get_or-map (code V 0) cs i [] d i' in
-    f.full i [] i' (code_same V 0 V (get_or cs i []) [] (omega arith) (f.above i [] i') tt (f.within i [] i') tt (sym ei ∙ sym e ∙ sym (code_nil V 0)))
+    (f.fit i [] i').full (code_same V 0 V (get_or cs i []) [] (omega arith) (f.fit i [] i').above tt (f.fit i [] i').within tt (sym ei ∙ sym e ∙ sym (code_nil V 0)))
 
 pub count_law : CountLaw
 count_law V cs f =

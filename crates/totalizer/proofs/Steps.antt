@@ -1,7 +1,6 @@
 -- Steps of the loops over clauses that are joined.
-use Rattle.std.proofs.Common.{◌≡◌, ℕ, zero, suc, ◌+◌, ◌<◌, ◌≤◌, ◌^◌, List, [], ◌∷◌, ◌++◌, length, refl, sym, ap, ◌∙◌, subst, arith, add-one, append_assoc, length-append, inl, inr, Result, Ok, Err}
+use Rattle.std.proofs.Common.{◌≡◌, ℕ, zero, suc, ◌+◌, ◌<◌, ◌≤◌, ◌^◌, List, ◌++◌, length, sym, ap, ◌∙◌, subst, arith, add-one, append_assoc, inl, inr, Result, Ok, Err}
 use Rattle.std.specs.List.{All}
-use Rattle.std.proofs.lemmas.List.Elements.{All-nil, All-push}
 use Rattle.std.proofs.lemmas.Bool.Decides.{leb_tells}
 use Rattle.std.specs.Prelude.{map, OnOk, OnErr, IfOk}
 use Rattle.clause_store.specs.declared.lit.Lit.{Lit}
@@ -10,7 +9,8 @@ use Rattle.clause_store.specs.Clauses.{Clauses}
 use Rattle.clause_store.specs.Grew.{Grew}
 use Rattle.clause_store.proofs.Grows.{stored-append, grew_front, grew_next}
 use Rattle.totalizer.specs.Joined.{joined}
-use Rattle.totalizer.specs.Plus.{fresh_outputs}
+use Rattle.totalizer.specs.Counter.{fresh_vars}
+use Rattle.totalizer.proofs.FreshVars.{length-fresh_vars, fresh_vars_positive}
 
 pub on_err : {T E P : Type 0} (r : Result T E) → P → OnErr r P
 on_err (Ok x) p = tt
@@ -54,15 +54,7 @@ grew_vars old mid new due e le g = record {
   more = let m = g.more in omega arith;
 }
 
-pub length-fresh : (v n : ℕ) → length (fresh_outputs v n) ≡ n
-length-fresh v zero = refl
-length-fresh v (suc n) = omega (arith, length-append (fresh_outputs v n) ((v + suc n) ∷ []), length-fresh v n)
-
-pub fresh_positive : (v n : ℕ) → All (λ x. 1 ≤ x) (fresh_outputs v n)
-fresh_positive v zero = All-nil (λ x. 1 ≤ x)
-fresh_positive v (suc n) = All-push (λ x. 1 ≤ x) (fresh_outputs v n) (v + suc n) (fresh_positive v n) (omega arith)
-
-pub invariant_fresh : (v n : ℕ) (xs : List ℕ) → xs ≡ fresh_outputs v n → 1 ≤ n → n ≤ 2 ^ 31 → (1 ≤ length xs) × (length xs ≤ 2 ^ 31) × All (λ x. 1 ≤ x) xs
+pub invariant_fresh : (v n : ℕ) (xs : List ℕ) → xs ≡ fresh_vars v n → 1 ≤ n → n ≤ 2 ^ 31 → (1 ≤ length xs) × (length xs ≤ 2 ^ 31) × All (λ x. 1 ≤ x) xs
 invariant_fresh v n xs e lo hi =
-    let l : length xs ≡ n = ap length e ∙ length-fresh v n in
-    (omega arith, omega arith, subst (λ ys. All (λ x. 1 ≤ x) ys) (sym e) (fresh_positive v n))
+    let l : length xs ≡ n = ap length e ∙ length-fresh_vars v n in
+    (omega arith, omega arith, subst (λ ys. All (λ x. 1 ≤ x) ys) (sym e) (fresh_vars_positive v n))

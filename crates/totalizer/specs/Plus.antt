@@ -1,10 +1,10 @@
 -- The clauses of a sum of two counters: the totalizer of Bailleux and Boufkhad (2003), both directions.
-use Rattle.std.specs.Prelude.{◌≡◌, ℕ, zero, suc, ◌+◌, ◌-◌, Bool, ◌==◌, ◌&&◌, List, [], ◌∷◌, ◌++◌, length, slice_index, if◌then◌else◌}
+use Rattle.std.specs.Prelude.{◌≡◌, ℕ, ◌+◌, ◌-◌, Bool, ◌==◌, ◌&&◌, List, [], ◌∷◌, ◌++◌, length, slice_index, if◌then◌else◌}
 use Rattle.clause_store.specs.declared.lit.Lit.{Lit}
 use Rattle.clause_store.specs.Lits.{positive_lit, negative_lit}
 use Rattle.clause_store.specs.Truth.{Satisfies}
 use Rattle.clause_store.specs.Extends.{Extends, Are}
-use Rattle.totalizer.specs.Counter.{Due, count_of, IsUnary}
+use Rattle.totalizer.specs.Counter.{Due, fresh_vars, count_of, IsUnary}
 use Rattle.totalizer.specs.Joined.{joined}
 
 -- the negation of output i, from 1, if there is one
@@ -33,17 +33,12 @@ row_clauses xs ys v i = joined (pair_clauses xs ys v i) (length ys + 1)
 abbrev pub plus_clauses : List ℕ → List ℕ → ℕ → List (List Lit)
 plus_clauses xs ys v = joined (row_clauses xs ys v) (length xs + 1)
 
--- the n variables after v
-abbrev pub fresh_outputs : ℕ → ℕ → List ℕ
-fresh_outputs v zero = []
-fresh_outputs v (suc n) = fresh_outputs v n ++ (v + suc n) ∷ []
-
 -- what is due for the sum of two counters, after v variables
 abbrev pub plus_due : ℕ → List ℕ → List ℕ → Due
 plus_due v xs ys = record {
   clauses = plus_clauses xs ys v;
   vars = v + (length xs + length ys);
-  outputs = fresh_outputs v (length xs + length ys);
+  outputs = fresh_vars v (length xs + length ys);
 }
 
 -- both count

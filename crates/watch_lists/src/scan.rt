@@ -1,6 +1,6 @@
 // Propagation by going through all clauses.
 ghost use Rattle.std.specs.Prelude.{◌≡◌, ◌≢◌, ℕ, ◌+◌, ◌<◌, ◌≤◌, List, [], ◌∷◌, ◌++◌, length, Some, None, IfOk, OnOk, OnErr, IfSome, IfNone, slice_get, All, Contains};
-ghost use Rattle.watch_lists.specs.Trace.{Trace, Attached, IsComplete, StandIn, Place, places_of, Extends, ExtendsAt, shorter, Grows, IsFalsified, upto, clause_at, attached_of, room_of, value_of, Implies};
+ghost use Rattle.watch_lists.specs.Trace.{Trace, Attached, IsComplete, StandIn, Place, places_of, Extends, ExtendsAt, shorter, Grows, IsFalsified, upto, attached_of, room_of, value_of, Implies};
 ghost use Rattle.clause_store.specs.Lits.{InRange};
 ghost use Rattle.watch_lists.specs.Look.{IsSeen, IsSwept};
 

@@ -1,4 +1,4 @@
-use Rattle.std.proofs.Common.{◌≡◌, ◌+◌, ◌≤◌, length, sym, ap, ◌∙◌, subst, arith}
+use Rattle.std.proofs.Common.{◌+◌, length, sym, ap, ◌∙◌, subst, arith}
 use Rattle.clause_store.specs.Grew.{Grew}
 use Rattle.clause_store.specs.Lits.{InRange}
 use Rattle.clause_store.proofs.Truths.{within_more}

@@ -1,4 +1,4 @@
-use Rattle.std.proofs.Common.{rules, arith, ◌≡◌, ◌≢◌, ◌≤◌, ◌<◌, ◌+◌, ◌-◌, ℕ, List, take, length, sym, ◌∙◌, subst}
+use Rattle.std.proofs.Common.{arith, ◌≤◌, ◌<◌, ◌+◌, ◌-◌, List, subst}
 use Rattle.std.proofs.lemmas.List.{take_all}
 use Rattle.clause_store.specs.declared.lit.Lit.{Lit}
 use Rattle.watch_lists.specs.Trace.{room_of, upto}

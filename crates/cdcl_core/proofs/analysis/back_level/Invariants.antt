@@ -1,4 +1,4 @@
-use Rattle.std.proofs.Common.{◌≡◌, ◌≤◌, ◌<◌, ◌+◌, ◌-◌, ℕ, take}
+use Rattle.std.proofs.Common.{◌≤◌, ◌<◌, ◌+◌, ◌-◌, ℕ, take}
 use Rattle.watch_lists.specs.Trace.{room_of, upto}
 use Rattle.cdcl_core.proofs.analysis.back_level.Given as goal
 

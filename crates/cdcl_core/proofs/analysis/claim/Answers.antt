@@ -1,12 +1,12 @@
-use Rattle.std.proofs.Common.{rules, arith, ◌≡◌, ◌≢◌, ◌≤◌, ◌<◌, ◌+◌, ◌-◌, ℕ, List, length, sym, ◌∙◌, subst, Some, None, true, false, ap, [], ◌∷◌, ◌++◌, refl, Option}
-use Rattle.std.specs.Prelude.{slice_get, unwrap_or}
+use Rattle.std.proofs.Common.{rules, arith, ◌≡◌, ◌-◌, ℕ, List, sym, ◌∙◌, subst, None, true, false, ap, [], ◌∷◌, ◌++◌, refl, Option}
+use Rattle.std.specs.Prelude.{unwrap_or}
 use Rattle.std.specs.List.{AllByRecursion}
 use Rattle.clause_store.specs.declared.lit.Lit.{Lit}
-use Rattle.clause_store.specs.Lits.{Ascends, negated, resolvent, InRange, has}
+use Rattle.clause_store.specs.Lits.{resolvent, InRange, has}
 use Rattle.derivation_log.specs.declared.step.Link.{Link}
 use Rattle.watch_lists.specs.declared.entry.Entry.{Entry}
-use Rattle.watch_lists.specs.Trace.{Attached, room_of, upto, oldest}
-use Rattle.solver_laws.specs.Ready.{IsBarred, IsFalseIn, IsLesson}
+use Rattle.watch_lists.specs.Trace.{Attached, oldest}
+use Rattle.solver_laws.specs.Ready.{IsBarred, IsLesson}
 use Rattle.cdcl_core.proofs.Walks.{at_entry, reason_within}
 use Rattle.cdcl_core.proofs.Claims.{IsClaiming, claim_step, claim_skip, claim_decided, claim_end, oldest_none, oldest_all, decides_all}
 use Rattle.cdcl_core.proofs.analysis.claim.Goals as goal

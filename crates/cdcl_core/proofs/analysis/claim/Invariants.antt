@@ -1,5 +1,5 @@
-use Rattle.std.proofs.Common.{◌≡◌, ◌≤◌, ◌-◌, length}
-use Rattle.watch_lists.specs.Trace.{upto, oldest}
+use Rattle.std.proofs.Common.{◌≤◌, length}
+use Rattle.watch_lists.specs.Trace.{oldest}
 use Rattle.cdcl_core.proofs.Claims.{IsClaiming}
 use Rattle.cdcl_core.proofs.analysis.claim.Given as goal
 

@@ -1,4 +1,4 @@
-use Rattle.std.proofs.Common.{rules, arith, ◌≡◌, ◌≢◌, ◌≤◌, ◌<◌, ℕ, sym, ◌∙◌}
+use Rattle.std.proofs.Common.{arith, sym, ◌∙◌}
 use Rattle.cdcl_core.proofs.Levels.{count_more, count_same}
 use Rattle.cdcl_core.proofs.analysis.count_at.Goals as goal
 use Rattle.cdcl_core.proofs.analysis.count_at.Goals.{then-level_at-level, else-level_at-level}

@@ -1,8 +1,7 @@
-use Rattle.std.proofs.Common.{rules, arith, ◌≡◌, ◌≢◌, ◌≤◌, ◌<◌, ◌+◌, ◌-◌, ℕ, List, length, sym, ◌∙◌, subst, Some, None, true, false, ap, [], ◌∷◌, ◌++◌, refl, Option}
-use Rattle.std.specs.Prelude.{slice_get}
+use Rattle.std.proofs.Common.{rules, arith, ◌≡◌, ◌≤◌, ◌-◌, ℕ, List, sym, ◌∙◌, subst, None, true, false, ap, [], ◌∷◌, ◌++◌}
 use Rattle.std.specs.List.{AllByRecursion}
 use Rattle.clause_store.specs.declared.lit.Lit.{Lit}
-use Rattle.clause_store.specs.Lits.{Ascends, negated, resolvent, InRange, has}
+use Rattle.clause_store.specs.Lits.{resolvent, InRange, has}
 use Rattle.derivation_log.specs.declared.step.Link.{Link}
 use Rattle.watch_lists.specs.declared.entry.Entry.{Entry}
 use Rattle.watch_lists.specs.Trace.{Attached, room_of, upto, oldest}

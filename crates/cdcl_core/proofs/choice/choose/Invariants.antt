@@ -1,8 +1,9 @@
-use Rattle.std.proofs.Common.{◌≡◌, ◌≢◌, ◌≤◌, ℕ, take, Some, None, true, false}
-use Rattle.std.specs.Prelude.{All}
-use Rattle.clause_store.specs.declared.lit.Lit.{Lit}
-use Rattle.watch_lists.specs.Trace.{value_of}
+use Rattle.std.proofs.Common.{◌-◌, length}
+use Rattle.cdcl_core.specs.Choices.{AreTrue}
 use Rattle.cdcl_core.proofs.choice.choose.Given as goal
 
-abbrev pub invariant-loop-lit : goal.invariant-loop-lit
-invariant-loop-lit l = All (λ (x : Lit). value_of l.trail.entries x ≡ Some true) (take l.lit-index l.assumptions)
+abbrev pub invariant-past : goal.invariant-past
+invariant-past l = AreTrue l.place l.assumptions l.trail
+
+abbrev pub decreases-past : goal.decreases-past
+decreases-past l = length l.assumptions - l.place

@@ -1,4 +1,4 @@
-use Rattle.std.proofs.Common.{◌≡◌, ◌≢◌, ◌≤◌, ℕ, None, false}
+use Rattle.std.proofs.Common.{◌≢◌, ◌≤◌, ℕ, None, false}
 use Rattle.watch_lists.specs.Trace.{value_of}
 use Rattle.cdcl_core.proofs.choice.first_free.Given as goal
 

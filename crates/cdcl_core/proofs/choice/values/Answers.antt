@@ -1,4 +1,4 @@
-use Rattle.std.proofs.Common.{rules, arith, ◌≡◌, ◌∙◌, ◌<◌, ◌+◌, ℕ, List, Bool, length, ap, sym, Option, false}
+use Rattle.std.proofs.Common.{arith, ◌∙◌, List, Bool, length, ap, Option, false}
 use Rattle.std.specs.Prelude.{unwrap_or}
 use Rattle.std.proofs.lemmas.List.{length-replicate}
 use Rattle.cdcl_core.proofs.Finds.{values_step}

@@ -1,4 +1,4 @@
-use Rattle.std.proofs.Common.{◌≡◌, ◌≢◌, ◌<◌, ◌+◌, ℕ, Some, None, true, false, length}
+use Rattle.std.proofs.Common.{◌≡◌, ◌<◌, ◌+◌, ℕ, true, false, length}
 use Rattle.std.specs.Prelude.{unwrap_or, slice_index_or}
 use Rattle.watch_lists.specs.Trace.{value_of}
 use Rattle.cdcl_core.proofs.choice.values.Given as goal

@@ -1,6 +1,7 @@
 use Rattle.std.proofs.Common.{◌≡◌, ◌≤◌, ◌-◌, length}
 use Rattle.solver_laws.specs.Ready.{IsReady}
 use Rattle.cdcl_core.specs.Asking.{IsAsking}
+use Rattle.cdcl_core.specs.Choices.{AreTrue}
 use Rattle.cdcl_core.proofs.engine.descend.Given as goal
 
 abbrev pub invariant-down : goal.invariant-down
@@ -9,6 +10,7 @@ invariant-down g l = record {
   asking : IsAsking l.assumptions l.assumed l.trail;
   within : length l.trail.entries ≤ l.trail.vars;
   vars : l.trail.vars ≡ l.fn.trail.vars;
+  before : AreTrue l.place l.assumptions l.trail;
 }
 
 abbrev pub decreases-down : goal.decreases-down

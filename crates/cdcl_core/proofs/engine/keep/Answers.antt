@@ -1,17 +1,14 @@
-use Rattle.std.proofs.Common.{rules, arith, ◌≡◌, ◌≢◌, ◌≤◌, ◌<◌, ◌+◌, ◌-◌, ℕ, List, length, sym, ◌∙◌, subst, Some, None, true, false, ap, [], ◌∷◌, ◌++◌, refl, Option, inl, inr}
-use Rattle.std.specs.Prelude.{slice_get, All}
+use Rattle.std.proofs.Common.{arith, ◌≡◌, ◌≤◌, ◌-◌, ℕ, List, length, sym, ◌∙◌, subst, true, ap, [], ◌∷◌, ◌++◌, refl, Option, inr}
 use Rattle.clause_store.specs.declared.lit.Lit.{Lit}
-use Rattle.clause_store.specs.Lits.{Ascends, Includes}
-use Rattle.clause_store.specs.Clauses.{Clauses}
-use Rattle.derivation_log.specs.Logs.{Log, known_of, learned_of, Follows, Comes, is_learned}
+use Rattle.clause_store.specs.Lits.{Ascends}
+use Rattle.clause_store.specs.Clauses.{Clauses, clause_at}
+use Rattle.derivation_log.specs.Logs.{Log, known_of, Follows, is_learned}
 use Rattle.derivation_log.specs.declared.step.Step.{Step}
-use Rattle.derivation_log.specs.declared.step.StepKind.TheVariants.{Learned, Claimed}
+use Rattle.derivation_log.specs.declared.step.StepKind.TheVariants.{Learned}
 use Rattle.watch_lists.specs.declared.entry.Entry.{Entry}
-use Rattle.watch_lists.specs.Trace.{Place, places_of, Trace, Attached, room_of, upto, IsStacked, Grows, ExtendsAt, IsComplete, clause_at}
-use Rattle.watch_lists.proofs.Scans.{grows_le}
-use Rattle.solver_laws.specs.Ready.{IsReady, IsLog, DecidesOnly, IsLesson, IsJustified}
-use Rattle.solver_laws.proofs.Rooms.{upto_whole}
-use Rattle.solver_laws.proofs.Turns.{ready_settled, ready_opened, undo_extends, ready_back, ready_claimed, ready_learned, is_new, log_more, decides_grows, grows_upto, known_push, ready_same, back_two, stand_more, push_get}
+use Rattle.watch_lists.specs.Trace.{Place, Trace, Attached, room_of, upto}
+use Rattle.solver_laws.specs.Ready.{IsReady, IsLog, IsLesson}
+use Rattle.solver_laws.proofs.Turns.{ready_learned, is_new, log_more, ready_same, back_two, stand_more, push_get}
 use Rattle.watch_lists.specs.Trace.{StandIn}
 use Rattle.std.specs.Prelude.{unwrap_or}
 use Rattle.solver_laws.specs.Ready.{IsFalseIn}

@@ -1,16 +1,9 @@
-use Rattle.std.proofs.Common.{rules, arith, ◌≡◌, ◌≢◌, ◌≤◌, ◌<◌, ◌+◌, ◌-◌, ℕ, List, length, sym, ◌∙◌, subst, Some, None, true, false, ap, [], ◌∷◌, ◌++◌, refl, Option, inl, inr}
-use Rattle.std.specs.Prelude.{slice_get, All}
-use Rattle.clause_store.specs.declared.lit.Lit.{Lit}
-use Rattle.clause_store.specs.Lits.{Ascends, Includes}
-use Rattle.clause_store.specs.Clauses.{Clauses}
-use Rattle.derivation_log.specs.Logs.{Log, known_of, learned_of, Follows, Comes}
-use Rattle.derivation_log.specs.declared.step.Step.{Step}
+use Rattle.std.proofs.Common.{arith, ◌≡◌, ◌<◌, ℕ, List, sym, ◌∙◌, subst, ap, refl, inl}
 use Rattle.watch_lists.specs.declared.entry.Entry.{Entry}
-use Rattle.watch_lists.specs.Trace.{Place, places_of, Trace, Attached, room_of, upto, IsStacked, Grows, ExtendsAt, IsComplete, clause_at, Extends, shorter}
-use Rattle.watch_lists.proofs.Scans.{grows_le}
-use Rattle.solver_laws.specs.Ready.{IsReady, IsLog, DecidesOnly, IsLesson, IsJustified}
+use Rattle.watch_lists.specs.Trace.{Place, places_of, Trace, Attached, upto, IsStacked, Extends, shorter}
+use Rattle.solver_laws.specs.Ready.{IsReady}
 use Rattle.solver_laws.proofs.Rooms.{upto_whole}
-use Rattle.solver_laws.proofs.Turns.{ready_settled, ready_opened, undo_extends, ready_back, ready_claimed, ready_learned, is_new, log_more, decides_grows, grows_upto, known_push, shorter_first, ready_same}
+use Rattle.solver_laws.proofs.Turns.{undo_extends, ready_back, shorter_first, ready_same}
 use Rattle.cdcl_core.proofs.engine.retreat.Goals as goal
 
 pub undo-requires-clause-prefix : goal.undo-requires-clause-prefix

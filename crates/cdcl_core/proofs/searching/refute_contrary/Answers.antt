@@ -1,18 +1,19 @@
-use Rattle.std.proofs.Common.{rules, arith, ◌≡◌, ◌≢◌, ◌≤◌, ◌<◌, ℕ, List, length, sym, ◌∙◌, subst, Some, None, true, false, ap, [], ◌∷◌, refl, Option}
+use Rattle.std.proofs.Common.{arith, ◌≡◌, ℕ, List, sym, ◌∙◌, subst, Some, None, true, false, ap, [], ◌∷◌, Option}
 use Rattle.std.proofs.lemmas.Bool.{cases_eq}
 use Rattle.std.proofs.Common.{eqb, inl, inr}
 use Rattle.std.specs.Prelude.{slice_get, unwrap_or}
 use Rattle.std.proofs.lemmas.Option.{slice_get_within}
 use Rattle.clause_store.specs.declared.lit.Lit.{Lit}
-use Rattle.clause_store.specs.Lits.{negated, has}
-use Rattle.derivation_log.specs.Logs.{Log, known_of}
+use Rattle.clause_store.specs.Lits.{has}
+use Rattle.derivation_log.specs.Logs.{known_of}
 use Rattle.watch_lists.specs.declared.entry.Entry.{Entry}
-use Rattle.watch_lists.specs.Trace.{Trace, Attached, entry_of, reason_in, clause_at}
+use Rattle.watch_lists.specs.Trace.{Attached, entry_of, reason_in}
+use Rattle.clause_store.specs.Clauses.{clause_at}
 use Rattle.solver_laws.specs.Ready.{IsBarred}
 use Rattle.std.specs.List.{AllByRecursion}
 use Rattle.watch_lists.proofs.Scans.{contains_all}
 use Rattle.cdcl_core.proofs.Claims.{decides_all, AllDecided}
-use Rattle.cdcl_core.proofs.Finds.{against, Against, reason_of_entry, contrary_barred, no_opposite}
+use Rattle.cdcl_core.proofs.Finds.{against, reason_of_entry, contrary_barred, no_opposite}
 use Rattle.cdcl_core.proofs.searching.refute_contrary.Goals as goal
 
 decided_entry : (asked : List Lit) (v : ℕ) (es : List Entry) (e : Entry) → AllDecided asked es → entry_of es v ≡ Some e → e.reason ≡ None → has e.lit asked ≡ true

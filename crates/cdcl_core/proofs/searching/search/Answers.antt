@@ -1,13 +1,11 @@
-use Rattle.std.proofs.Common.{rules, arith, ◌≡◌, ◌≢◌, ◌≤◌, ◌<◌, ◌+◌, ◌-◌, ℕ, List, length, sym, ◌∙◌, subst, Some, None, true, false, ap, [], ◌∷◌, ◌++◌, refl, map}
-use Rattle.std.specs.Prelude.{All}
+use Rattle.std.proofs.Common.{rules, arith, ◌≡◌, ◌-◌, ℕ, List, sym, ◌∙◌, subst, ap, ◌++◌, refl, map}
 use Rattle.clause_store.specs.declared.lit.Lit.{Lit}
 use Rattle.clause_store.specs.Clauses.{Clauses}
 use Rattle.clause_store.specs.Lits.{InRange, AreInRange}
-use Rattle.derivation_log.specs.Logs.{Log, known_of, learned_of}
-use Rattle.watch_lists.specs.declared.entry.Entry.{Entry}
-use Rattle.watch_lists.specs.Trace.{Trace, Attached, IsFalsified, IsStacked}
+use Rattle.derivation_log.specs.Logs.{known_of, learned_of}
+use Rattle.watch_lists.specs.Trace.{Trace, Attached, IsStacked}
 use Rattle.cdcl_core.specs.declared.engine.Turn.{Turn}
-use Rattle.cdcl_core.specs.Asking.{IsAsking, IsTurn}
+use Rattle.cdcl_core.specs.Asking.{IsTurn}
 use Rattle.cdcl_core.proofs.Askings.{asking_back}
 use Rattle.cdcl_core.proofs.Finds.{falsified_within, falsified_barred, main_found, main_range, asked_found, grown_none, grown_more, decides_none}
 use Rattle.cdcl_core.proofs.searching.search.Goals as goal

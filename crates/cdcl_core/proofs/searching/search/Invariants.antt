@@ -1,4 +1,4 @@
-use Rattle.std.proofs.Common.{◌≡◌, ◌≤◌, ◌-◌, length}
+use Rattle.std.proofs.Common.{◌≡◌}
 use Rattle.solver_laws.specs.Ready.{IsReady}
 use Rattle.cdcl_core.specs.Asking.{IsAsking}
 use Rattle.cdcl_core.specs.Replies.{IsGrown}

@@ -1,9 +1,9 @@
-use Rattle.std.proofs.Common.{rules, arith, ◌≡◌, ◌<◌, ◌+◌, ℕ, List, [], ◌∷◌, ◌++◌, length, sym, ◌∙◌, subst, refl, ap, map, take, get_or, zero, suc}
+use Rattle.std.proofs.Common.{arith, ◌≡◌, ◌<◌, ℕ, List, [], ◌∷◌, ◌++◌, length, sym, ◌∙◌, subst, refl, ap, map, take, get_or, zero, suc}
 use Rattle.std.proofs.lemmas.List.{take_more}
 use Rattle.clause_store.specs.declared.lit.Lit.{Lit}
-use Rattle.clause_store.specs.Clauses.{Clauses}
-use Rattle.derivation_log.specs.Logs.{Log, known_of, clauses_of}
-use Rattle.watch_lists.specs.Trace.{Attached, StandIn, clause_at}
+use Rattle.clause_store.specs.Clauses.{Clauses, clause_at}
+use Rattle.derivation_log.specs.Logs.{known_of, clauses_of}
+use Rattle.watch_lists.specs.Trace.{Attached, StandIn}
 use Rattle.cdcl_core.proofs.solver.attach_all.Goals as goal
 
 map_push : (w : List Attached) (a : Attached) → map (λ (x : Attached). x.clause) (w ++ a ∷ []) ≡ map (λ (x : Attached). x.clause) w ++ a.clause ∷ []

@@ -1,7 +1,8 @@
 use Rattle.std.proofs.Common.{◌≡◌, ◌<◌, ◌∙◌, length, true, false, List, sym, subst}
 use Rattle.std.specs.List.{AllByRecursion}
 use Rattle.derivation_log.specs.declared.step.Link.{Link}
-use Rattle.log_checker.specs.Verdicts.{are_below, chain_from, clause_at, Ends}
+use Rattle.log_checker.specs.Verdicts.{are_below, chain_from, Ends}
+use Rattle.clause_store.specs.Clauses.{clause_at}
 use Rattle.log_checker.proofs.Chains.{step_below, not_below, answer_follows, answer_other, answer_err, verdict_ends, no_both, same_not, same_yes}
 use Rattle.log_checker.proofs.checking.check_step.Goals as goal
 

@@ -3,7 +3,8 @@ use Rattle.std.specs.Prelude.{slice_index_or}
 use Rattle.clause_store.specs.declared.lit.Lit.{Lit}
 use Rattle.clause_store.specs.Lits.{has, negated}
 use Rattle.derivation_log.specs.declared.step.Link.{Link}
-use Rattle.log_checker.specs.Verdicts.{chain_from, clause_at}
+use Rattle.log_checker.specs.Verdicts.{chain_from}
+use Rattle.clause_store.specs.Clauses.{clause_at}
 use Rattle.log_checker.proofs.Chains.{walk_stop, walk_on, and_false}
 use Rattle.log_checker.proofs.checking.end_of_chain.Goals as goal
 

@@ -1,5 +1,6 @@
 use Rattle.std.proofs.Common.{◌≡◌, drop}
-use Rattle.log_checker.specs.Verdicts.{chain_from, clause_at}
+use Rattle.log_checker.specs.Verdicts.{chain_from}
+use Rattle.clause_store.specs.Clauses.{clause_at}
 use Rattle.log_checker.proofs.checking.end_of_chain.Given as goal
 
 abbrev pub invariant-loop-link : goal.invariant-loop-link

@@ -1,10 +1,10 @@
-use Rattle.std.proofs.Common.{◌≡◌, ◌+◌, ◌≤◌, ◌^◌, length, refl, sym, ap, ◌∙◌, subst, arith}
+use Rattle.std.proofs.Common.{◌+◌, length, refl, sym, ap, ◌∙◌, subst, arith}
 use Rattle.clause_store.proofs.Grows.{grew_none, grew_front}
 use Rattle.totalizer.specs.Joined.{joined}
-use Rattle.totalizer.specs.Counter.{AreVarsWithin}
+use Rattle.totalizer.specs.Counter.{fresh_vars, AreVarsWithin}
 use Rattle.totalizer.specs.Either.{either_due}
-use Rattle.agent_copies.specs.Differences.{difference_at, fresh_vars, drastic_due}
-use Rattle.agent_copies.specs.CounterLaws.{vars_within}
+use Rattle.totalizer.proofs.FreshVars.{fresh_vars_within}
+use Rattle.agent_copies.specs.Differences.{difference_at, drastic_due}
 use Rattle.agent_copies.proofs.Steps.{on_err}
 use Rattle.agent_copies.proofs.counted.DrasticCounted.counter.Goals as goal
 
@@ -19,4 +19,4 @@ returns-in_err-add_differences-clause-err c =
 pub either-requires-clause-vars_in : goal.either-requires-clause-vars_in
 either-requires-clause-vars_in c =
     let items = c.deref.ensures.value ∙ c.in_ok-vars.ensures ∙ ap (λ v. fresh_vars v (length c.args.shared.now)) c.vars.ensures.vars in
-    subst (λ xs. AreVarsWithin c.add_differences.new.clauses.vars xs) (sym items) (vars_within c.args.clauses.now.vars (length c.args.shared.now) c.add_differences.new.clauses.vars (omega (arith, c.in_ok-add_differences.ensures.vars)))
+    subst (λ xs. AreVarsWithin c.add_differences.new.clauses.vars xs) (sym items) (fresh_vars_within c.args.clauses.now.vars (length c.args.shared.now) c.add_differences.new.clauses.vars (omega (arith, c.in_ok-add_differences.ensures.vars)))

@@ -1,13 +1,14 @@
-use Rattle.std.proofs.Common.{◌≡◌, ◌+◌, ◌≤◌, ◌^◌, length, refl, sym, ap, ◌∙◌, subst, arith}
+use Rattle.std.proofs.Common.{◌+◌, ◌≤◌, ◌^◌, length, refl, sym, ap, ◌∙◌, subst, arith}
 use Rattle.clause_store.proofs.Grows.{grew_none, grew_front}
 use Rattle.totalizer.specs.Joined.{joined}
 use Rattle.std.specs.List.{All}
-use Rattle.totalizer.specs.Counter.{AllVarsWithin, leaves}
+use Rattle.totalizer.specs.Counter.{fresh_vars, AllVarsWithin, leaves}
 use Rattle.totalizer.specs.Total.{total_due}
 use Rattle.totalizer.proofs.Sizes.{leaves_within}
-use Rattle.agent_copies.specs.Differences.{difference_at, fresh_vars, hamming_due}
-use Rattle.agent_copies.specs.CounterLaws.{vars_within, hamming_room}
-use Rattle.agent_copies.proofs.Steps.{on_err, vars_positive}
+use Rattle.totalizer.proofs.FreshVars.{fresh_vars_positive, fresh_vars_within}
+use Rattle.agent_copies.specs.Differences.{difference_at, hamming_due}
+use Rattle.agent_copies.specs.CounterLaws.{hamming_room}
+use Rattle.agent_copies.proofs.Steps.{on_err}
 use Rattle.agent_copies.proofs.counted.HammingCounted.counter.Goals as goal
 
 pub returns-in_err-vars-clause-err : goal.returns-in_err-vars-clause-err
@@ -25,13 +26,13 @@ returns-in_err-parts-clause-err c =
 pub leaves-requires : goal.leaves-requires
 leaves-requires c =
     let items = c.deref.ensures.value ∙ c.in_ok-vars.ensures ∙ ap (λ v. fresh_vars v (length c.args.shared.now)) c.vars.ensures.vars in
-    subst (λ xs. All (λ x. 1 ≤ x) xs) (sym items) (vars_positive c.args.clauses.now.vars (length c.args.shared.now))
+    subst (λ xs. All (λ x. 1 ≤ x) xs) (sym items) (fresh_vars_positive c.args.clauses.now.vars (length c.args.shared.now))
 
 pub total-requires-clause-parts_in : goal.total-requires-clause-parts_in
 total-requires-clause-parts_in c =
     let items = c.deref.ensures.value ∙ c.in_ok-vars.ensures ∙ ap (λ v. fresh_vars v (length c.args.shared.now)) c.vars.ensures.vars in
     let parts = c.deref-2.ensures.value ∙ c.in_ok-parts.ensures ∙ ap leaves items in
-    subst (λ ps. AllVarsWithin c.add_differences.new.clauses.vars ps) (sym parts) (leaves_within c.add_differences.new.clauses.vars (fresh_vars c.args.clauses.now.vars (length c.args.shared.now)) (vars_within c.args.clauses.now.vars (length c.args.shared.now) c.add_differences.new.clauses.vars (omega (arith, c.in_ok-add_differences.ensures.vars))))
+    subst (λ ps. AllVarsWithin c.add_differences.new.clauses.vars ps) (sym parts) (leaves_within c.add_differences.new.clauses.vars (fresh_vars c.args.clauses.now.vars (length c.args.shared.now)) (fresh_vars_within c.args.clauses.now.vars (length c.args.shared.now) c.add_differences.new.clauses.vars (omega (arith, c.in_ok-add_differences.ensures.vars))))
 
 pub total-requires-clause-room : goal.total-requires-clause-room
 total-requires-clause-room c =

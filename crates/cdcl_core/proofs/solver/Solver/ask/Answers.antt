@@ -1,7 +1,7 @@
 use Rattle.std.proofs.Common.{◌≡◌, ap, subst}
 use Rattle.derivation_log.specs.Logs.{Log, is_learned}
 use Rattle.cdcl_core.specs.Replies.{IsAnswered}
-use Rattle.std.proofs.Common.{ℕ, ◌≤◌, ◌+◌, ◌<◌, List, [], ◌∷◌, ◌++◌, length, true, false, refl, arith, suc, inl, inr, sym, ◌∙◌, ◌≢◌, cond}
+use Rattle.std.proofs.Common.{ℕ, ◌≤◌, List, [], ◌∷◌, ◌++◌, length, refl, arith, suc, inl, inr, sym, ◌∙◌}
 use Rattle.std.specs.Prelude.{◌^◌, Contains}
 use Rattle.std.proofs.lemmas.Bool.{cases_Bool}
 use Rattle.clause_store.specs.declared.lit.Lit.{Lit}
@@ -12,7 +12,7 @@ use Rattle.log_checker.proofs.Sound.{log_refutes}
 use Rattle.derivation_log.specs.declared.step.Step.{Step}
 use Rattle.solver_laws.specs.Ready.{IsLog}
 use Rattle.solver_laws.proofs.Few.{few_learned, apart}
-use Rattle.cdcl_core.specs.Replies.{IsGrown, IsLonger, AllLearned, IsDecided, IsJust}
+use Rattle.cdcl_core.specs.Replies.{IsLonger, AllLearned, IsDecided, IsJust}
 use Rattle.cdcl_core.specs.declared.reply.Reply.{Reply}
 use Rattle.cdcl_core.specs.declared.reply.Reply.TheVariants.{Found, Refuted, GaveUp}
 use Rattle.cdcl_core.specs.State.{State}
