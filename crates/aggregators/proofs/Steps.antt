@@ -1,6 +1,7 @@
 -- Steps of the calls that append levels.
 use Rattle.std.proofs.Common.{◌≡◌, ℕ, zero, suc, ◌+◌, ◌-◌, ◌<◌, ◌≤◌, List, [], ◌∷◌, ◌++◌, length, get_or, refl, sym, ap, ◌∙◌, subst, arith, append_assoc, All}
 use Rattle.std.specs.Prelude.{map}
+use Rattle.std.proofs.lemmas.List.{append-nil}
 use Rattle.std.proofs.lemmas.List.Elements.{All-nil, All-cons, All-head, All-tail}
 use Rattle.clause_store.specs.declared.lit.Lit.{Lit}
 use Rattle.clause_store.specs.Lits.{sorted_clause}
@@ -14,13 +15,9 @@ use Rattle.aggregators.specs.Levels.{top_of, column, totals_due}
 use Rattle.aggregators.specs.LevelOutputs.{column_length}
 use Rattle.aggregators.specs.SumLevel.{total_bound}
 
-pub append_none : {X : Type 0} (xs : List X) → xs ++ [] ≡ xs
-append_none [] = refl
-append_none (x ∷ xs) = ap (λ z. x ∷ z) (append_none xs)
-
 -- all that is due
 pub grew_whole : (old new : Clauses) (due : List (List Lit)) → new.list ≡ old.list ++ map sorted_clause due → old.vars ≤ new.vars → Grew old new due
-grew_whole old new due e le = record { added = map sorted_clause due; missing = []; kept = e; part = append_none (map sorted_clause due); more = le }
+grew_whole old new due e le = record { added = map sorted_clause due; missing = []; kept = e; part = append-nil (map sorted_clause due); more = le }
 
 -- the list has grown by the first of the clauses that are due in all, up to the rest
 pub record IsDueStill (old now : List (List Lit)) (rest all : List (List Lit)) : Type 0 where
@@ -29,7 +26,7 @@ pub record IsDueStill (old now : List (List Lit)) (rest all : List (List Lit)) :
   pub part : first ++ rest ≡ all
 
 pub due_all : (old : List (List Lit)) (all : List (List Lit)) → IsDueStill old old all all
-due_all old all = record { first = []; list = sym (append_none old); part = refl }
+due_all old all = record { first = []; list = sym (append-nil old); part = refl }
 
 -- a refusal in what is due next
 pub grew_rest : (old now new : Clauses) (next rest all : List (List Lit)) → IsDueStill old.list now.list (next ++ rest) all → old.vars ≤ now.vars → Grew now new next → Grew old new all
@@ -110,10 +107,10 @@ step_grew left parts old now new all some h le g =
 pub end_list : (left v : ℕ) (parts : List (List ℕ)) (old now all : List (List Lit)) → left ≡ 0 → IsDueStill old now (totals_due left v parts).clauses all → now ≡ old ++ map sorted_clause all
 end_list left v parts old now all e h =
     let d = subst (λ n. IsDueStill old now (totals_due n v parts).clauses all) e h in
-    d.list ∙ ap (λ x. old ++ map sorted_clause x) (sym (append_none d.first) ∙ d.part)
+    d.list ∙ ap (λ x. old ++ map sorted_clause x) (sym (append-nil d.first) ∙ d.part)
 
 pub end_levels : (left v : ℕ) (parts now all : List (List ℕ)) → left ≡ 0 → now ++ (totals_due left v parts).levels ≡ all → now ≡ all
-end_levels left v parts now all e h = sym (append_none now) ∙ subst (λ n. now ++ (totals_due n v parts).levels ≡ all) e h
+end_levels left v parts now all e h = sym (append-nil now) ∙ subst (λ n. now ++ (totals_due n v parts).levels ≡ all) e h
 
 pub end_vars : (left v m : ℕ) (parts : List (List ℕ)) → left ≡ 0 → (totals_due left v parts).vars ≡ m → v ≡ m
 end_vars left v m parts e h = subst (λ n. (totals_due n v parts).vars ≡ m) e h

@@ -1,6 +1,7 @@
 -- What a refused call leaves, from what its parts leave.
 use Rattle.std.proofs.Common.{◌≡◌, ◌≤◌, List, [], ◌∷◌, ◌++◌, refl, sym, ap, ◌∙◌, arith, append_assoc}
 use Rattle.std.specs.Prelude.{map}
+use Rattle.std.proofs.lemmas.List.{append-nil}
 use Rattle.clause_store.specs.declared.lit.Lit.{Lit}
 use Rattle.clause_store.specs.Lits.{sorted_clause}
 use Rattle.clause_store.specs.Clauses.{Clauses}
@@ -10,10 +11,6 @@ use Rattle.clause_store.specs.Grew.{Grew}
 pub stored-append : (cs ds : List (List Lit)) → map sorted_clause (cs ++ ds) ≡ map sorted_clause cs ++ map sorted_clause ds
 stored-append [] ds = refl
 stored-append (c ∷ cs) ds = ap (λ x. sorted_clause c ∷ x) (stored-append cs ds)
-
-append_none : (xs : List (List Lit)) → xs ++ [] ≡ xs
-append_none [] = refl
-append_none (x ∷ xs) = ap (λ z. x ∷ z) (append_none xs)
 
 -- the first clauses alone
 grew_by : (old new : Clauses) (first rest : List (List Lit)) → new.list ≡ old.list ++ map sorted_clause first → old.vars ≤ new.vars → Grew old new (first ++ rest)
@@ -27,7 +24,7 @@ grew_by old new first rest e le = record {
 
 -- no clause yet
 pub grew_none : (old new : Clauses) (due : List (List Lit)) → new.list ≡ old.list → old.vars ≤ new.vars → Grew old new due
-grew_none old new due e le = grew_by old new [] due (e ∙ sym (append_none old.list)) le
+grew_none old new due e le = grew_by old new [] due (e ∙ sym (append-nil old.list)) le
 
 -- the first clause
 pub grew_one : (old new : Clauses) (c : List Lit) (due : List (List Lit)) → new.list ≡ old.list ++ sorted_clause c ∷ [] → old.vars ≤ new.vars → Grew old new (c ∷ due)
