@@ -1,6 +1,6 @@
 -- Steps of the loops, and what the counters' calls need.
-use Rattle.std.proofs.Common.{◌≡◌, ℕ, zero, suc, ◌+◌, ◌<◌, List, [], ◌∷◌, ◌++◌, length, refl, ap, ◌∙◌, subst, arith, add-one, Result, Ok, Err}
-use Rattle.std.specs.Prelude.{map, slice_index_or, OnErr}
+use Rattle.std.proofs.Common.{◌≡◌, ℕ, zero, suc, ◌+◌, ◌<◌, List, [], ◌∷◌, ◌++◌, length, refl, ap, ◌∙◌, subst, arith, add-one}
+use Rattle.std.specs.Prelude.{map, slice_index_or}
 use Rattle.clause_store.specs.declared.lit.Lit.{Lit}
 use Rattle.clause_store.specs.Lits.{positive_lit, sorted_clause, IsWithin, InRange}
 use Rattle.clause_store.specs.Clauses.{Clauses}
@@ -25,10 +25,6 @@ place_is v i n xs ys e d c lx ly is at =
     ap (λ l. difference_clauses l (slice_index_or xs i d) (slice_index_or ys i c)) (is ∙ ap (λ n. positive_lit (n + 1)) at)
     ∙ ap (λ l. difference_clauses (positive_lit (v + i + 1)) l (slice_index_or ys i c)) (other_default xs i d lx)
     ∙ ap (λ l. difference_clauses (positive_lit (v + i + 1)) (atom_lit xs i) l) (other_default ys i c ly)
-
-pub on_err : {T E P : Type 0} (r : Result T E) → P → OnErr r P
-on_err (Ok x) p = tt
-on_err (Err e) p = p
 
 pub place_grew : (v i n : ℕ) (xs ys : List Lit) (e d c : Lit) (now new : Clauses) → i < length xs → i < length ys → e ≡ positive_lit (n + 1) → n ≡ v + i → Grew now new (difference_clauses e (slice_index_or xs i d) (slice_index_or ys i c)) → Grew now new (difference_at v xs ys i)
 place_grew v i n xs ys e d c now new lx ly is at g = subst (λ cs. Grew now new cs) (place_is v i n xs ys e d c lx ly is at) g

@@ -6,9 +6,8 @@ use Rattle.clause_store.specs.Lits.{InRange, sorted_clause}
 use Rattle.clause_store.proofs.Truths.{within_more}
 use Rattle.clause_store.proofs.Grows.{grew_none, grew_front, grew_next}
 use Rattle.clause_translation.specs.Definition.{Definition, definition}
-use Rattle.totalizer.proofs.Steps.{grew_vars}
+use Rattle.totalizer.proofs.Steps.{on_err, grew_vars}
 use Rattle.agent_copies.specs.Copy.{fresh_lits, copy_due}
-use Rattle.agent_copies.proofs.Steps.{on_err}
 use Rattle.agent_copies.proofs.Copies.{length-fresh_lits, fresh_lits_in, copy_is}
 use Rattle.agent_copies.proofs.copy.copy_agent.Goals as goal
 

@@ -1,8 +1,8 @@
 use Rattle.std.proofs.Common.{length, ap, ◌∙◌, arith}
 use Rattle.clause_store.specs.Clauses.{Clauses}
 use Rattle.agent_copies.specs.Differences.{difference_at}
-use Rattle.totalizer.proofs.Steps.{joined_more, joined_grew}
-use Rattle.agent_copies.proofs.Steps.{on_err, place_grew, place_list}
+use Rattle.totalizer.proofs.Steps.{on_err, joined_more, joined_grew}
+use Rattle.agent_copies.proofs.Steps.{place_grew, place_list}
 use Rattle.agent_copies.proofs.difference.add_differences.Goals as goal
 
 pub returns-in_err-add_difference-clause-err : goal.returns-in_err-add_difference-clause-err

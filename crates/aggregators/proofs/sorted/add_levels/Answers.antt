@@ -1,4 +1,4 @@
-use Rattle.std.proofs.Common.{◌-◌, ◌++◌, length, refl, ap, arith}
+use Rattle.std.proofs.Common.{ℕ, ◌-◌, List, ◌++◌, length, refl, ap, arith}
 use Rattle.totalizer.specs.Counter.{leaves}
 use Rattle.totalizer.specs.Total.{total_due}
 use Rattle.totalizer.proofs.Steps.{on_err}
@@ -14,7 +14,7 @@ loop-left-init c = record {
   room = omega arith;
   vars = refl;
   list = due_all c.args.clauses.now.list (totals_due c.args.top c.args.clauses.now.vars c.args.parts.now).clauses;
-  levels = ap (λ xs. xs ++ (totals_due c.args.top c.args.clauses.now.vars c.args.parts.now).levels) c.new-levels.ensures.items;
+  levels = ap (λ (xs : List (List ℕ)). xs ++ (totals_due c.args.top c.args.clauses.now.vars c.args.parts.now).levels) c.new-levels.ensures.items;
 }
 
 pub add_level-requires-clause-long : goal.add_level-requires-clause-long

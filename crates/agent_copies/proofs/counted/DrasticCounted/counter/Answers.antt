@@ -5,9 +5,8 @@ use Rattle.totalizer.specs.Joined.{joined_blocks}
 use Rattle.totalizer.specs.Counter.{fresh_vars, AreVarsWithin}
 use Rattle.totalizer.specs.Either.{either_due}
 use Rattle.totalizer.proofs.FreshVars.{fresh_vars_within}
-use Rattle.totalizer.proofs.Steps.{map_err}
+use Rattle.totalizer.proofs.Steps.{on_err, map_err}
 use Rattle.agent_copies.specs.Differences.{difference_at, drastic_due}
-use Rattle.agent_copies.proofs.Steps.{on_err}
 use Rattle.agent_copies.proofs.counted.DrasticCounted.counter.Goals as goal
 
 pub returns-in_err-vars-clause-err : goal.returns-in_err-vars-clause-err

@@ -7,10 +7,9 @@ use Rattle.totalizer.specs.Counter.{fresh_vars, AllVarsWithin, leaves}
 use Rattle.totalizer.specs.Total.{total_due}
 use Rattle.totalizer.proofs.Sizes.{leaves_within}
 use Rattle.totalizer.proofs.FreshVars.{fresh_vars_positive, fresh_vars_within}
-use Rattle.totalizer.proofs.Steps.{map_err}
+use Rattle.totalizer.proofs.Steps.{on_err, map_err}
 use Rattle.agent_copies.specs.Differences.{difference_at, hamming_due}
 use Rattle.agent_copies.specs.CounterLaws.{hamming_room}
-use Rattle.agent_copies.proofs.Steps.{on_err}
 use Rattle.agent_copies.proofs.counted.HammingCounted.counter.Goals as goal
 
 pub returns-in_err-vars-clause-err : goal.returns-in_err-vars-clause-err
