@@ -11,7 +11,7 @@ use Rattle.clause_translation.specs.Definition.{atom_lit}
 use Rattle.clause_translation.proofs.Defines.{lit_at}
 use Rattle.merge_model.specs.Distances.{apart, hamming, drastic}
 use Rattle.totalizer.specs.Counter.{Due, fresh_vars, AllUnary, sum_of, leaves}
-use Rattle.totalizer.specs.Joined.{joined}
+use Rattle.totalizer.specs.Joined.{joined_blocks}
 use Rattle.totalizer.specs.Total.{total_due}
 use Rattle.totalizer.specs.Either.{any_of, either_due}
 use Rattle.totalizer.proofs.FreshVars.{length-fresh_vars, index_fresh_vars, fresh_vars_within}
@@ -72,20 +72,20 @@ difference_defines v x y hx hy =
 wider : (v w : ℕ) (l : Lit) → v ≤ w → IsWithin v l → IsWithin w l
 wider v w l le h = (h.0, let z = h.1 in omega arith)
 
-differences_define : (v : ℕ) (xs ys : List Lit) (n : ℕ) → n ≤ length xs → n ≤ length ys → InRange v xs → InRange v ys → Extends Always (Are (joined (difference_at v xs ys) n)) v (v + n)
+differences_define : (v : ℕ) (xs ys : List Lit) (n : ℕ) → n ≤ length xs → n ≤ length ys → InRange v xs → InRange v ys → Extends Always (Are (joined_blocks (difference_at v xs ys) n)) v (v + n)
 differences_define v xs ys zero hx hy rx ry = let z : v ≡ v + 0 = omega arith in
     subst (λ w. Extends Always (Are []) v w) z (weaker Always Always (Are []) Always v v (nothing Always v (λ a b h p. tt)) (λ a b h p. tt) (λ a b h r. refl) (λ b p. p) (λ b p r. tt) (λ b p r. refl))
 differences_define v xs ys (suc n) hx hy rx ry =
     let z : v + n + 1 ≡ v + suc n = omega arith in
-    subst (λ w. Extends Always (Are (joined (difference_at v xs ys) (suc n))) v w) z
-    (next_are Always Always v (v + n) (v + n + 1) (joined (difference_at v xs ys) n) (difference_at v xs ys n) (differences_define v xs ys n (omega arith) (omega arith) rx ry)
+    subst (λ w. Extends Always (Are (joined_blocks (difference_at v xs ys) (suc n))) v w) z
+    (next_are Always Always v (v + n) (v + n + 1) (joined_blocks (difference_at v xs ys) n) (difference_at v xs ys n) (differences_define v xs ys n (omega arith) (omega arith) rx ry)
     (difference_defines (v + n) (atom_lit xs n) (atom_lit ys n) (wider v (v + n) (atom_lit xs n) (omega arith) (lit_at v xs n rx (omega arith))) (wider v (v + n) (atom_lit ys n) (omega arith) (lit_at v ys n ry (omega arith)))) (λ b p r. tt))
 
 -- each difference variable has its value
 abbrev pub AreDifferences : (ℕ → Bool) → ℕ → List Lit → List Lit → Type 0
 AreDifferences b v xs ys = (k : ℕ) → k < length xs → b (v + k + 1) ≡ differ (lit_true b (atom_lit xs k)) (lit_true b (atom_lit ys k))
 
-are_differences : (b : ℕ → Bool) (v : ℕ) (xs ys : List Lit) → Satisfies b (joined (difference_at v xs ys) (length xs)) → AreDifferences b v xs ys
+are_differences : (b : ℕ → Bool) (v : ℕ) (xs ys : List Lit) → Satisfies b (joined_blocks (difference_at v xs ys) (length xs)) → AreDifferences b v xs ys
 are_differences b v xs ys r = λ k lt. difference_to b (v + k + 1) (atom_lit xs k) (atom_lit ys k) (joined_to b (difference_at v xs ys) (length xs) r k lt)
 
 later : (b : ℕ → Bool) (v : ℕ) (x y : Lit) (xs ys : List Lit) → AreDifferences b v (x ∷ xs) (y ∷ ys) → AreDifferences b (v + 1) xs ys
@@ -164,7 +164,7 @@ hamming_is v xs ys e lo hi hx hy =
     let n = length xs in
     let vars = fresh_vars v n in
     let ls = leaves vars in
-    let ds = joined (difference_at v xs ys) n in
+    let ds = joined_blocks (difference_at v xs ys) n in
     let a = length-leaves vars ∙ length-fresh_vars v n in
     let t = total_law (v + n) ls (omega (arith, a)) (leaves_within (v + n) vars (fresh_vars_within v n (v + n) (omega arith))) in
     let split : (b : ℕ → Bool) → Are (hamming_due v xs ys).clauses b → Are ds b × Are (hamming_total v n).clauses b = λ b r. let s = sym (all_true-append b ds (hamming_total v n).clauses) ∙ r in (and_left _ _ s, and_right _ _ s) in
@@ -183,7 +183,7 @@ drastic_is v xs ys e lo hi hx hy =
     let n = length xs in
     let vars = fresh_vars v n in
     let d = either_due (v + n) vars in
-    let ds = joined (difference_at v xs ys) n in
+    let ds = joined_blocks (difference_at v xs ys) n in
     let t = either_is (v + n) vars (fresh_vars_within v n (v + n) (omega arith)) in
     let split : (b : ℕ → Bool) → Are (drastic_due v xs ys).clauses b → Are ds b × Are d.clauses b = λ b r. let s = sym (all_true-append b ds d.clauses) ∙ r in (and_left _ _ s, and_right _ _ s) in
     record {

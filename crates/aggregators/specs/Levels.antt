@@ -5,7 +5,7 @@ use Rattle.clause_store.specs.declared.lit.Lit.{Lit}
 use Rattle.clause_store.specs.Extends.{Extends, Are}
 use Rattle.totalizer.specs.Counter.{fresh_vars, count_of, AllUnary, AllVarsWithin, AreDistinct, leaves}
 use Rattle.totalizer.specs.Either.{either_due}
-use Rattle.totalizer.specs.Joined.{joined}
+use Rattle.totalizer.specs.Joined.{joined_blocks}
 use Rattle.totalizer.specs.Total.{total_due}
 use Rattle.merge_model.specs.Merging.{repeated}
 
@@ -41,7 +41,7 @@ output_clauses v aways k = (either_due (v + k) (column k aways)).clauses
 -- of the maximum: one level, whose outputs are each either of the counters' outputs of that number
 abbrev pub max_due : ℕ → List (List ℕ) → List ℕ → LevelsDue
 max_due v aways times = record {
-  clauses = joined (output_clauses v aways) (top_of aways);
+  clauses = joined_blocks (output_clauses v aways) (top_of aways);
   vars = v + top_of aways;
   levels = fresh_vars v (top_of aways) ∷ [];
 }

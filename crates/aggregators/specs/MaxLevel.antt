@@ -10,7 +10,7 @@ use Rattle.clause_store.specs.Extends.{Extends, Are, Always}
 use Rattle.clause_store.proofs.Blocks.{weaker, next_are}
 use Rattle.totalizer.specs.Counter.{fresh_vars, count_of, AllUnary, AllVarsWithin}
 use Rattle.totalizer.specs.Either.{any_of, either_due}
-use Rattle.totalizer.specs.Joined.{joined}
+use Rattle.totalizer.specs.Joined.{joined_blocks}
 use Rattle.totalizer.proofs.Disjunctions.{either_is, either_to}
 use Rattle.totalizer.proofs.FreshVars.{length-fresh_vars, index_fresh_vars, fresh_vars_within, fresh_vars_are, count_fresh_vars}
 use Rattle.totalizer.proofs.Law.{count_le, joined_to, more_vars}
@@ -25,17 +25,17 @@ use Rattle.aggregators.specs.Levels.{counts_of, top_of, column, output_clauses, 
 use Rattle.aggregators.specs.LevelOutputs.{HaveOutputs, fresh_have}
 use Rattle.aggregators.specs.LeximaxLevels.{no_clause, column_within}
 
-pub outputs_extend : (n m v : ℕ) (aways : List (List ℕ)) → AllVarsWithin v aways → All (λ c. length c ≡ m) aways → n ≤ m → Extends Always (Are (joined (output_clauses v aways) n)) v (v + n)
+pub outputs_extend : (n m v : ℕ) (aways : List (List ℕ)) → AllVarsWithin v aways → All (λ c. length c ≡ m) aways → n ≤ m → Extends Always (Are (joined_blocks (output_clauses v aways) n)) v (v + n)
 outputs_extend zero m v aways w s le = subst (λ (u : ℕ). Extends Always (Are []) v u) (let e : v ≡ v + 0 = omega arith in e) (no_clause v)
 outputs_extend (suc n) m v aways w s le =
     let d = either_due (v + n) (column n aways) in
-    subst (λ (u : ℕ). Extends Always (Are (joined (output_clauses v aways) (suc n))) v u) (let e : v + n + 1 ≡ v + suc n = omega arith in e)
-    (next_are Always Always v (v + n) d.vars (joined (output_clauses v aways) n) d.clauses
+    subst (λ (u : ℕ). Extends Always (Are (joined_blocks (output_clauses v aways) (suc n))) v u) (let e : v + n + 1 ≡ v + suc n = omega arith in e)
+    (next_are Always Always v (v + n) d.vars (joined_blocks (output_clauses v aways) n) d.clauses
     (outputs_extend n m v aways w s (omega arith))
     (either_is (v + n) (column n aways) (more_vars v (v + n) (column n aways) (omega arith) (column_within v n m aways w s (omega arith)))).extends
     (λ b p r. tt))
 
-pub output_is : (b : ℕ → Bool) (m v : ℕ) (aways : List (List ℕ)) → AllVarsWithin v aways → All (λ c. length c ≡ m) aways → Are (joined (output_clauses v aways) m) b → (k : ℕ) → k < m → b (v + k + 1) ≡ any_of b (column k aways)
+pub output_is : (b : ℕ → Bool) (m v : ℕ) (aways : List (List ℕ)) → AllVarsWithin v aways → All (λ c. length c ≡ m) aways → Are (joined_blocks (output_clauses v aways) m) b → (k : ℕ) → k < m → b (v + k + 1) ≡ any_of b (column k aways)
 output_is b m v aways w s r k lt =
     either_to b (v + k + 1) (column k aways)
     (joined_to b (output_clauses v aways) m r k lt)
@@ -75,7 +75,7 @@ max_outputs v n given =
 pub max_is : (v : ℕ) (aways : List (List ℕ)) (times : List ℕ) → HaveLevels v aways times → AreLevels v aways times max_values (max_due v aways times)
 max_is v aways times h =
     let n = top_of aways in
-    let cs = joined (output_clauses v aways) n in
+    let cs = joined_blocks (output_clauses v aways) n in
     let extends : Extends Always (Are cs) v (v + n) = outputs_extend n n v aways h.within h.sized (omega arith) in
     let tells : (b : ℕ → Bool) → AllUnary b aways → Are cs b → (k : ℕ) → k < n → b (v + k + 1) ≡ nat_lt k (greatest (counts_of b aways)) =
     λ b p r k lt. output_is b n v aways h.within h.sized r k lt ∙ any_column b k n aways p h.sized lt in

@@ -3,7 +3,7 @@ ghost use Rattle.clause_store.specs.Grew.{Grew};
 ghost use Rattle.clause_store.specs.Lits.{sorted_clause};
 ghost use Rattle.totalizer.specs.Counter.{fresh_vars, AllVarsWithin};
 ghost use Rattle.totalizer.specs.Either.{either_due};
-ghost use Rattle.totalizer.specs.Joined.{joined};
+ghost use Rattle.totalizer.specs.Joined.{joined_blocks};
 ghost use Rattle.aggregators.specs.Levels.{column, output_clauses};
 
 use crate::Levelled;
@@ -83,8 +83,8 @@ fn add_outputs(
     requires room { clauses.old.vars + top ≤ 2 ^ 31 }
     ensures outputs { IfOk result (λ outputs. outputs.items ≡ fresh_vars clauses.old.vars top) }
     ensures vars { OnOk result (clauses.new.vars ≡ clauses.old.vars + top) }
-    ensures list { OnOk result (clauses.new.list ≡ clauses.old.list ++ map sorted_clause (joined (output_clauses clauses.old.vars aways.now) top)) }
-    ensures err { OnErr result (Grew clauses.old clauses.new (joined (output_clauses clauses.old.vars aways.now) top)) }
+    ensures list { OnOk result (clauses.new.list ≡ clauses.old.list ++ map sorted_clause (joined_blocks (output_clauses clauses.old.vars aways.now) top)) }
+    ensures err { OnErr result (Grew clauses.old clauses.new (joined_blocks (output_clauses clauses.old.vars aways.now) top)) }
 {
     let mut outputs = Vec::new(alloc);
     for k in 0..top {

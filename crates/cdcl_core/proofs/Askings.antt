@@ -1,6 +1,8 @@
 -- What decisions and going back leave of the assumptions.
-use Rattle.std.proofs.Common.{◌≡◌, ◌≢◌, ℕ, ◌+◌, ◌<◌, ◌≤◌, Bool, true, false, List, [], ◌∷◌, refl, ap, sym, ◌∙◌, arith, eqb, inl, inr, subst, Some, None, Option, take, get_or}
-use Rattle.std.specs.Prelude.{nat_le, All, Contains}
+use Rattle.std.proofs.Common.{◌≡◌, ◌≢◌, ℕ, ◌+◌, ◌<◌, ◌≤◌, Bool, true, false, List, [], ◌∷◌, refl, ap, sym, ◌∙◌, arith, eqb, inl, inr, subst, Some, None, Option, get_or}
+use Rattle.std.specs.Prelude.{nat_le, All, Contains, length}
+use Rattle.std.proofs.Math.Bool.{beq}
+use Rattle.std.proofs.lemmas.List.{get_or_default}
 use Rattle.std.proofs.lemmas.Bool.{cases_lt, cases_eq}
 use Rattle.clause_store.specs.declared.lit.Lit.{Lit}
 use Rattle.watch_lists.specs.declared.entry.Entry.{Entry}
@@ -38,26 +40,67 @@ pub value_grows : (w : List Attached) (level : ℕ) (es fs : List Entry) (l : Li
 value_grows w level es _ l b (Same fs) h = h
 value_grows w level es _ l b (More fs gs n c m q at i) h = value_more gs (record { lit = m; level = level; reason = Some n }) l b i.free (value_grows w level es gs l b q h)
 
-pub true_kept : (n : ℕ) (asked : List Lit) (t t' : Trace) → ((l : Lit) → value_of t.entries l ≡ Some true → value_of t'.entries l ≡ Some true) → AreTrue n asked t → AreTrue n asked t'
-true_kept n asked t t' f a k d lt = f (get_or (take n asked) k d) (a k d lt)
+value_own : (es : List Entry) (e : Entry) → value_of (e ∷ es) e.lit ≡ Some true
+value_own es e = let t : eqb e.lit.var e.lit.var ≡ true = grind arith in rw t (own e.lit.positive)
+  where
+    own : (b : Bool) → (let x : Option Bool = Some (beq b b) in x ≡ Some true)
+    own true = refl
+    own false = refl
 
-pub true_opened : (n : ℕ) (asked : List Lit) (t t' : Trace) (l : Lit) → value_of t.entries l ≡ None → (let u : Trace = record { vars = t.vars; level = t.level + 1; entries = record { lit = l; level = t.level + 1; reason = None } ∷ t.entries } in t' ≡ u) →
-    AreTrue n asked t → AreTrue n asked t'
-true_opened n asked t t' l f e a =
-    let u : Trace = record { vars = t.vars; level = t.level + 1; entries = record { lit = l; level = t.level + 1; reason = None } ∷ t.entries } in
-    subst (AreTrue n asked) (sym e) (true_kept n asked t u (λ x h. value_more t.entries (record { lit = l; level = t.level + 1; reason = None }) x true f h) a)
+-- what is true of the first assumptions
+pub true_kept : (n : ℕ) (asked : List Lit) (es fs : List Entry) → ((l : Lit) → value_of es l ≡ Some true → value_of fs l ≡ Some true) → AreTrue n asked es → AreTrue n asked fs
+true_kept n asked es fs f a k d lt le = f (get_or asked k d) (a k d lt le)
+
+pub true_opened : (n : ℕ) (asked : List Lit) (es : List Entry) (e : Entry) → value_of es e.lit ≡ None → AreTrue n asked es → AreTrue n asked (e ∷ es)
+true_opened n asked es e f a = true_kept n asked es (e ∷ es) (λ x h. value_more es e x true f h) a
+
+pub true_more : (n : ℕ) (asked : List Lit) (es : List Entry) (l : Lit) → n < length asked → get_or asked n l ≡ l → value_of es l ≡ Some true → AreTrue n asked es → AreTrue (n + 1) asked es
+true_more n asked es l h at v a k d lt le =
+    elim (cases_eq k n) [
+      | inl q ↦ (let x : get_or asked k d ≡ l = ap (λ (j : ℕ). get_or asked j d) q ∙ get_or_default asked n d l h ∙ at in subst (λ (y : Lit). value_of es y ≡ Some true) (sym x) v)
+      | inr q ↦ a k d (omega arith) le
+    ]
+
+-- with the assumption of a place decided
+pub true_decided : (n : ℕ) (asked : List Lit) (es : List Entry) (e : Entry) → n < length asked → get_or asked n e.lit ≡ e.lit → value_of es e.lit ≡ None → AreTrue n asked es → AreTrue (n + 1) asked (e ∷ es)
+true_decided n asked es e h at f a = true_more n asked (e ∷ es) e.lit h at (value_own es e) (true_opened n asked es e f a)
 
 decides_raise : (asked : List Lit) (lv m n : ℕ) (es : List Entry) → IsStacked lv es → lv ≤ m → DecidesOnly asked m es → DecidesOnly asked n es
 decides_raise asked lv m n [] s h d = tt
 decides_raise asked lv m n (e ∷ es) s h d =
     ((λ r l. d.0 r (omega (arith, s.0))), elim s.1 [ inl x ↦ decides_raise asked x.1.0 m n es x.1.2 (omega (arith, x.1.1)) d.1 | inr i ↦ decides_raise asked lv m n es i.1 h d.1 ])
 
-pub asking_settled : (asked : List Lit) (k : ℕ) (t t' : Trace) → IsAsking asked k t → t'.level ≡ t.level → ((j : ℕ) → j < t.level → upto j t'.entries ≡ upto j t.entries) → DecidesOnly asked k t'.entries → IsAsking asked k t'
-asking_settled asked k t t' a l u d = record {
+pub asking_settled : (asked : List Lit) (k : ℕ) (t t' : Trace) → IsAsking asked k t → IsTrace t → IsTrace t' → t'.level ≡ t.level → ((j : ℕ) → j < t.level → upto j t'.entries ≡ upto j t.entries) → DecidesOnly asked k t'.entries →
+    ((l : Lit) → value_of t.entries l ≡ Some true → value_of t'.entries l ≡ Some true) → IsAsking asked k t'
+asking_settled asked k t t' a tr tr' l u d f = record {
   le = omega (arith, a.le);
   decides = d;
+  each = λ j h. elim (cases_lt j t.level) [
+    | inl g ↦ subst (AreTrue j asked) (sym (u j g)) (a.each j h)
+    | inr g ↦ (let q : t.level ≡ j = omega (arith, a.le) in
+        let old : upto j t.entries ≡ t.entries = upto_whole j t.entries (subst (λ (n : ℕ). IsStacked n t.entries) q tr.stacked) in
+        let new : upto j t'.entries ≡ t'.entries = upto_whole j t'.entries (subst (λ (n : ℕ). IsStacked n t'.entries) (l ∙ q) tr'.stacked) in
+        subst (AreTrue j asked) (sym new) (true_kept j asked t.entries t'.entries f (subst (AreTrue j asked) old (a.each j h))))
+  ];
   free = λ h. (let g : k < t.level = omega arith in subst (λ (es : List Entry). All (λ (x : Lit). value_of es x ≡ Some true) asked) (sym (u k g)) (a.free g));
 }
+
+-- the first assumptions are true, as many as there are levels that they opened
+pub asking_true : (asked : List Lit) (k : ℕ) (t : Trace) → IsAsking asked k t → IsTrace t → AreTrue k asked t.entries
+asking_true asked k t a tr = true_kept k asked (upto k t.entries) t.entries (λ l h. upto_value t.vars k t.entries l true tr.apart h) (a.each k (omega arith))
+
+-- the same after a literal was decided
+pub place_freed : (n : ℕ) (asked : List Lit) (t t' : Trace) (l : Lit) → value_of t.entries l ≡ None → AreTrue n asked t.entries →
+    (let u : Trace = record { vars = t.vars; level = t.level + 1; entries = record { lit = l; level = t.level + 1; reason = None } ∷ t.entries } in t' ≡ u) → AreTrue n asked t'.entries
+place_freed n asked t t' l v p e =
+    let x : Entry = record { lit = l; level = t.level + 1; reason = None } in
+    subst (AreTrue n asked) (sym (ap (λ (u : Trace). u.entries) e)) (true_opened n asked t.entries x v p)
+
+pub place_decided : (n : ℕ) (asked : List Lit) (t t' : Trace) (l : Lit) → n < length asked → get_or asked n l ≡ l → value_of t.entries l ≡ None → AreTrue n asked t.entries →
+    (let u : Trace = record { vars = t.vars; level = t.level + 1; entries = record { lit = l; level = t.level + 1; reason = None } ∷ t.entries } in t' ≡ u) → AreTrue (n + 1) asked t'.entries
+place_decided n asked t t' l h at v p e =
+    let x : Entry = record { lit = l; level = t.level + 1; reason = None } in
+    subst (AreTrue (n + 1) asked) (sym (ap (λ (u : Trace). u.entries) e)) (true_decided n asked t.entries x h at v p)
 
 -- an assumption that is not true shows that all levels were opened by assumptions
 pub asking_all : (asked : List Lit) (k : ℕ) (t : Trace) (l : Lit) → IsAsking asked k t → IsTrace t → Contains asked l → value_of t.entries l ≢ Some true → k ≡ t.level
@@ -67,14 +110,26 @@ asking_all asked k t l a tr c n =
       | inr h ↦ omega (arith, a.le)
     ]
 
-pub asking_assumed : (asked : List Lit) (k : ℕ) (t t' : Trace) (l : Lit) → IsAsking asked k t → IsTrace t → Contains asked l → value_of t.entries l ≡ None →
+pub asking_assumed : (asked : List Lit) (k n : ℕ) (t t' : Trace) (l : Lit) → IsAsking asked k t → IsTrace t → k ≤ n → AreTrue n asked t.entries → n < length asked → get_or asked n l ≡ l → value_of t.entries l ≡ None →
     (let u : Trace = record { vars = t.vars; level = t.level + 1; entries = record { lit = l; level = t.level + 1; reason = None } ∷ t.entries } in t' ≡ u) → IsAsking asked t'.level t'
-asking_assumed asked k t t' l a tr c v e =
-    let k' : k ≡ t.level = asking_all asked k t l a tr c (λ h. (let z = sym v ∙ h in absurd (cc))) in
+asking_assumed asked k n t t' l a tr kn p h at v e =
+    let c : Contains asked l = (n, h, at) in
+    let k' : k ≡ t.level = asking_all asked k t l a tr c (λ g. (let z = sym v ∙ g in absurd (cc))) in
     let d : DecidesOnly asked (t.level + 1) t.entries = decides_raise asked t.level k (t.level + 1) t.entries tr.stacked (omega arith) a.decides in
-    let u : Trace = record { vars = t.vars; level = t.level + 1; entries = record { lit = l; level = t.level + 1; reason = None } ∷ t.entries } in
-    let r : IsAsking asked u.level u = record { le = omega arith; decides = ((λ _ _. contains_has asked l c), d); free = λ h. absurd (omega arith) } in
-    subst (λ (x : Trace). IsAsking asked x.level x) (sym e) r
+    let x : Entry = record { lit = l; level = t.level + 1; reason = None } in
+    let u : Trace = record { vars = t.vars; level = t.level + 1; entries = x ∷ t.entries } in
+    let each : (j : ℕ) → j ≤ t.level + 1 → AreTrue j asked (upto j (x ∷ t.entries)) = λ j le. elim (cases_lt t.level j) [
+      | inl g ↦ (let up : nat_le (t.level + 1) j ≡ true = grind arith in
+          let st : upto j (x ∷ t.entries) ≡ x ∷ t.entries = rw up refl in
+          let all = true_decided n asked t.entries x h at v p in
+          let j' : j ≤ n + 1 = omega arith in
+          subst (AreTrue j asked) (sym st) (λ i y lt le'. all i y (omega arith) le'))
+      | inr g ↦ (let up : nat_le (t.level + 1) j ≡ false = grind arith in
+          let st : upto j (x ∷ t.entries) ≡ upto j t.entries = rw up refl in
+          subst (AreTrue j asked) (sym st) (a.each j (omega arith)))
+    ] in
+    let r : IsAsking asked u.level u = record { le = omega arith; decides = ((λ _ _. contains_has asked l c), d); each = each; free = λ g. absurd (omega arith) } in
+    subst (λ (y : Trace). IsAsking asked y.level y) (sym e) r
 
 pub asking_freed : (asked : List Lit) (k : ℕ) (t t' : Trace) (l : Lit) → IsAsking asked k t → IsTrace t → All (λ (x : Lit). value_of t.entries x ≡ Some true) asked →
     (let u : Trace = record { vars = t.vars; level = t.level + 1; entries = record { lit = l; level = t.level + 1; reason = None } ∷ t.entries } in t' ≡ u) → IsAsking asked k t'
@@ -90,6 +145,7 @@ asking_freed asked k t t' l a tr all e =
     let r : IsAsking asked k u = record {
       le = omega (arith, a.le);
       decides = ((λ _ h. absurd (omega (arith, a.le))), a.decides);
+      each = λ j h. (let up : nat_le (t.level + 1) j ≡ false = grind (arith, a.le) in let still : upto j (d ∷ t.entries) ≡ upto j t.entries = rw up refl in subst (AreTrue j asked) (sym still) (a.each j h));
       free = λ _. subst (λ (es : List Entry). All (λ (x : Lit). value_of es x ≡ Some true) asked) (sym st) f;
     } in
     subst (IsAsking asked k) (sym e) r
@@ -101,6 +157,7 @@ asking_back asked k m b t t' a le mk mb same e =
     let r : IsAsking asked m u = record {
       le = mb;
       decides = decides_upto asked m b t.entries (decides_less asked m k t.entries mk a.decides);
+      each = λ j h. subst (AreTrue j asked) (sym (upto_upto j b t.entries (omega arith))) (a.each j (omega arith));
       free = λ h. (let q = same h in let kb : k < t.level = omega arith in
           subst (λ (es : List Entry). All (λ (x : Lit). value_of es x ≡ Some true) asked) (sym (ap (λ (n : ℕ). upto n (upto b t.entries)) q ∙ upto_upto k b t.entries (omega arith))) (a.free kb));
     } in

@@ -1,6 +1,7 @@
 -- What is decided next.
-use Rattle.std.specs.Prelude.{◌≡◌, ◌≢◌, ℕ, ◌+◌, ◌<◌, ◌≤◌, Bool, true, false, List, length, Some, None, slice_index_or, unwrap_or, All, Contains, take}
+use Rattle.std.specs.Prelude.{◌≡◌, ◌≢◌, ℕ, ◌+◌, ◌<◌, ◌≤◌, Bool, true, false, List, length, Some, None, slice_index_or, unwrap_or, All, Contains}
 use Rattle.clause_store.specs.declared.lit.Lit.{Lit}
+use Rattle.watch_lists.specs.declared.entry.Entry.{Entry}
 use Rattle.watch_lists.specs.Trace.{Trace, value_of}
 use Rattle.cdcl_core.specs.declared.choice.Choice.{Choice}
 use Rattle.cdcl_core.specs.declared.choice.Choice.TheVariants.{Contrary, Assume, Free, Full}
@@ -13,15 +14,16 @@ IsFree t l = (1 ≤ l.var) × (l.var ≤ t.vars) × (value_of t.entries l ≡ No
 abbrev pub IsFull : Trace → Type 0
 IsFull t = (v : ℕ) → 1 ≤ v → v ≤ t.vars → value_of t.entries (record { var = v; positive = false }) ≢ None
 
--- the assumptions before the place are true
-abbrev pub AreTrue : ℕ → List Lit → Trace → Type 0
-AreTrue place assumptions t = All (λ l. value_of t.entries l ≡ Some true) (take place assumptions)
+-- each assumption before the place is true
+abbrev pub AreTrue : ℕ → List Lit → List Entry → Type 0
+AreTrue place asked es = (k : ℕ) (d : Lit) → k < place → k < length asked → value_of es (slice_index_or asked k d) ≡ Some true
 
-abbrev pub IsChosen : List Lit → Trace → Choice → Type 0
-IsChosen assumptions t (Contrary l) = (Contains assumptions l) × (value_of t.entries l ≡ Some false)
-IsChosen assumptions t (Assume l) = (Contains assumptions l) × (value_of t.entries l ≡ None)
-IsChosen assumptions t (Free l) = All (λ l. value_of t.entries l ≡ Some true) assumptions × IsFree t l
-IsChosen assumptions t Full = All (λ l. value_of t.entries l ≡ Some true) assumptions × IsFull t
+-- a literal that is assumed stands at the place
+abbrev pub IsChosen : ℕ → List Lit → Trace → Choice → Type 0
+IsChosen place asked t (Contrary l) = Contains asked l × (value_of t.entries l ≡ Some false)
+IsChosen place asked t (Assume l) = (place < length asked) × (slice_index_or asked place l ≡ l) × (value_of t.entries l ≡ None)
+IsChosen place asked t (Free l) = All (λ l. value_of t.entries l ≡ Some true) asked × IsFree t l
+IsChosen place asked t Full = All (λ l. value_of t.entries l ≡ Some true) asked × IsFull t
 
 -- the value of each variable, false where it has none
 pub record HasValues (t : Trace) (values : List Bool) : Type 0 where

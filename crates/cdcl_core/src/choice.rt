@@ -22,9 +22,10 @@ pub enum Choice {
 // are true, and it moves on to the first that is not.
 pub fn choose(assumptions: &[Lit], place: &mut usize, trail: &Trail, order: &mut Order) -> Choice
     requires in_range { InRange trail.now.vars assumptions.now }
-    requires before { AreTrue place.old assumptions.now trail.now }
-    ensures before { AreTrue place.new assumptions.now trail.now }
-    ensures chosen { IsChosen assumptions.now trail.now result }
+    requires before { AreTrue place.old assumptions.now trail.now.entries }
+    ensures on { place.old ≤ place.new }
+    ensures before { AreTrue place.new assumptions.now trail.now.entries }
+    ensures chosen { IsChosen place.new assumptions.now trail.now result }
 {
     'past: while *place < assumptions.len() {
         let lit = assumptions[*place];

@@ -170,17 +170,20 @@ pub fn descend<P: Propagator>(
 {
     trail.facts();
     let mut assumed = assumed;
-    let mut place = 0;
+    let mut place = assumed as usize;
     'down: loop {
-        if let Some(number) = settle(log, trail, propagator) {
+        trail.facts();
+        let conflict = settle(log, trail, propagator);
+        trail.facts();
+        if let Some(number) = conflict {
             return (assumed, Turn::Conflict(number));
         }
-        trail.facts();
         match choose(assumptions, &mut place, trail, order) {
             Choice::Contrary(lit) => return (assumed, Turn::Contrary(lit)),
             Choice::Assume(lit) => {
                 open(log, trail, propagator, lit);
                 assumed = trail.level();
+                place += 1;
             }
             Choice::Free(lit) => open(log, trail, propagator, lit),
             Choice::Full => return (assumed, Turn::Full),

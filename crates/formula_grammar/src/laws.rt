@@ -3,6 +3,7 @@ ghost use Rattle.formulas.specs.Formulas.{width_of, depth_of};
 ghost use Rattle.formula_text.specs.CanonicalText.{formula_text};
 ghost use Rattle.formula_grammar.specs.declared.read.FormulaStop.{FormulaStop};
 ghost use Rattle.formulas.specs.declared.formula.Formula.{Formula};
+ghost use Rattle.formula_grammar.specs.Limits.{depth_limit};
 ghost use Rattle.formula_grammar.specs.Readings.{IsReadOrStopped, IsTextRead, IsTextStop};
 
 use formulas::{Atoms, Formula};
@@ -16,12 +17,12 @@ pub fn each_text_has_one_outcome(_text: &[u8], _atoms: &Atoms)
     ensures one_stop { (s t : FormulaStop) → IsTextStop _atoms.now _text.now s → IsTextStop _atoms.now _text.now t → s ≢ FormulaStop.NoMemory → t ≢ FormulaStop.NoMemory → s ≡ t }
 {}
 
-/// The canonical text of a formula of depth 128 at most is read as that formula.
+/// The canonical text of a formula that is not too deep is read as that formula.
 pub fn canonical_text_is_read_back(_formula: &Formula, atoms: &Atoms)
     requires width { width_of _formula.now ≤ length atoms.now }
-    requires depth { depth_of _formula.now ≤ 128 }
+    requires depth { depth_of _formula.now ≤ depth_limit }
     ensures { IsTextRead atoms.now (formula_text atoms.now _formula.now) _formula.now }
 {
-    // That the names are distinct is told by `len`.
+    // The proof needs the invariant of the atoms, which `len` tells.
     let _count = atoms.len();
 }

@@ -10,7 +10,7 @@ use Rattle.clause_store.proofs.Truths.{AreInRange-append, all_true-append, claus
 use Rattle.clause_store.proofs.Blocks.{block}
 use Rattle.totalizer.proofs.FreshVars.{length-fresh_vars, index_fresh_vars, count_fresh_vars}
 use Rattle.totalizer.specs.Counter.{fresh_vars, count_of, IsUnary, AreVarsWithin}
-use Rattle.totalizer.specs.Joined.{joined}
+use Rattle.totalizer.specs.Joined.{joined_blocks}
 use Rattle.totalizer.specs.Plus.{under, over, up_clauses, down_clauses, pair_clauses, row_clauses, plus_clauses, plus_due, Both, IsSum}
 
 or_false : (x : Bool) → (x || false) ≡ x
@@ -86,23 +86,23 @@ down_says i j p q m n x h lo lo' lt le le' = grind (arith, nat_tests)
 down_holds : (i j p q m n : ℕ) (x : Bool) → (i + j < p + q → m ≤ i → n ≤ j → x ≡ false) → i ≤ p → j ≤ q → ((i == p && (j == q)) || (nat_lt i m || (nat_lt j n || not x))) ≡ true
 down_holds i j p q m n x h lo lo' = grind (arith, nat_tests)
 
-pub joined_to : (b : ℕ → Bool) (f : ℕ → List (List Lit)) (n : ℕ) → Are (joined f n) b → (j : ℕ) → j < n → Are (f j) b
+pub joined_to : (b : ℕ → Bool) (f : ℕ → List (List Lit)) (n : ℕ) → Are (joined_blocks f n) b → (j : ℕ) → j < n → Are (f j) b
 joined_to b f zero h j lt = absurd (omega arith)
 joined_to b f (suc n) h j lt =
-    let s = sym (all_true-append b (joined f n) (f n)) ∙ h in
+    let s = sym (all_true-append b (joined_blocks f n) (f n)) ∙ h in
     elim (leb_tells n j) [
-      | inl x ↦ (let e : n ≡ j = let y = x.1 in omega arith in subst (λ j. Are (f j) b) e (and_right (all_true b (joined f n)) (all_true b (f n)) s))
-      | inr x ↦ joined_to b f n (and_left (all_true b (joined f n)) (all_true b (f n)) s) j x.1
+      | inl x ↦ (let e : n ≡ j = let y = x.1 in omega arith in subst (λ j. Are (f j) b) e (and_right (all_true b (joined_blocks f n)) (all_true b (f n)) s))
+      | inr x ↦ joined_to b f n (and_left (all_true b (joined_blocks f n)) (all_true b (f n)) s) j x.1
     ]
 
-pub joined_from : (b : ℕ → Bool) (f : ℕ → List (List Lit)) (n : ℕ) → ((j : ℕ) → j < n → Are (f j) b) → Are (joined f n) b
+pub joined_from : (b : ℕ → Bool) (f : ℕ → List (List Lit)) (n : ℕ) → ((j : ℕ) → j < n → Are (f j) b) → Are (joined_blocks f n) b
 joined_from b f zero h = refl
 joined_from b f (suc n) h =
-    all_true-append b (joined f n) (f n) ∙ and_both (all_true b (joined f n)) (all_true b (f n)) (joined_from b f n (λ j lt. h j (omega arith))) (h n (omega arith))
+    all_true-append b (joined_blocks f n) (f n) ∙ and_both (all_true b (joined_blocks f n)) (all_true b (f n)) (joined_from b f n (λ j lt. h j (omega arith))) (h n (omega arith))
 
-pub joined_within : (v : ℕ) (f : ℕ → List (List Lit)) (n : ℕ) → ((j : ℕ) → j < n → AreInRange v (f j)) → AreInRange v (joined f n)
+pub joined_within : (v : ℕ) (f : ℕ → List (List Lit)) (n : ℕ) → ((j : ℕ) → j < n → AreInRange v (f j)) → AreInRange v (joined_blocks f n)
 joined_within v f zero h = tt
-joined_within v f (suc n) h = AreInRange-append v (joined f n) (f n) (joined_within v f n (λ j lt. h j (omega arith))) (h n (omega arith))
+joined_within v f (suc n) h = AreInRange-append v (joined_blocks f n) (f n) (joined_within v f n (λ j lt. h j (omega arith))) (h n (omega arith))
 
 lits_within-append : (v : ℕ) (xs ys : List Lit) → InRange v xs → InRange v ys → InRange v (xs ++ ys)
 lits_within-append v [] ys h k = k

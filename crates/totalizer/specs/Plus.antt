@@ -5,7 +5,7 @@ use Rattle.clause_store.specs.Lits.{positive_lit, negative_lit}
 use Rattle.clause_store.specs.Truth.{Satisfies}
 use Rattle.clause_store.specs.Extends.{Extends, Are}
 use Rattle.totalizer.specs.Counter.{Due, fresh_vars, count_of, IsUnary}
-use Rattle.totalizer.specs.Joined.{joined}
+use Rattle.totalizer.specs.Joined.{joined_blocks}
 
 -- the negation of output i, from 1, if there is one
 abbrev pub under : List ℕ → ℕ → List Lit
@@ -28,10 +28,10 @@ pair_clauses xs ys v i j = up_clauses xs ys v i j ++ down_clauses xs ys v i j
 
 -- the pairs (i, 0) to (i, length ys)
 abbrev pub row_clauses : List ℕ → List ℕ → ℕ → ℕ → List (List Lit)
-row_clauses xs ys v i = joined (pair_clauses xs ys v i) (length ys + 1)
+row_clauses xs ys v i = joined_blocks (pair_clauses xs ys v i) (length ys + 1)
 
 abbrev pub plus_clauses : List ℕ → List ℕ → ℕ → List (List Lit)
-plus_clauses xs ys v = joined (row_clauses xs ys v) (length xs + 1)
+plus_clauses xs ys v = joined_blocks (row_clauses xs ys v) (length xs + 1)
 
 -- what is due for the sum of two counters, after v variables
 abbrev pub plus_due : ℕ → List ℕ → List ℕ → Due

@@ -10,7 +10,8 @@ invariant-down g l = record {
   asking : IsAsking l.assumptions l.assumed l.trail;
   within : length l.trail.entries ≤ l.trail.vars;
   vars : l.trail.vars ≡ l.fn.trail.vars;
-  before : AreTrue l.place l.assumptions l.trail;
+  on : l.assumed ≤ l.place;
+  before : AreTrue l.place l.assumptions l.trail.entries;
 }
 
 abbrev pub decreases-down : goal.decreases-down

@@ -15,7 +15,7 @@ loop-turn-init g c =
     let st : IsStacked 0 c.args.trail.now.entries = subst (λ (k : ℕ). IsStacked k c.args.trail.now.entries) c.requires.rest c.facts.ensures.stacked in
     record {
       ready = c.requires.ready;
-      asking = record { le = omega arith; decides = decides_none c.args.assumptions.now 0 c.args.trail.now.entries st; free = λ h. absurd (omega (arith, c.requires.rest)) };
+      asking = record { le = omega arith; decides = decides_none c.args.assumptions.now 0 c.args.trail.now.entries st; each = λ j h k d lt. absurd (omega arith); free = λ h. absurd (omega (arith, c.requires.rest)) };
       grown = grown_none c.args.log.now c.requires.ready.log;
       vars = refl;
     }
