@@ -1,24 +1,20 @@
 -- What is due for a copy is a copy.
-use Rattle.std.proofs.Common.{◌≡◌, ℕ, zero, suc, ◌+◌, ◌<◌, ◌≤◌, ◌^◌, Bool, List, [], ◌∷◌, ◌++◌, length, refl, sym, ap, ◌∙◌, subst, arith, append_assoc}
-use Rattle.std.specs.Prelude.{map, slice_index}
+use Rattle.std.proofs.Common.{◌≡◌, ℕ, zero, suc, ◌+◌, ◌<◌, ◌≤◌, Bool, List, ◌∷◌, ◌++◌, length, refl, sym, ap, ◌∙◌, subst, arith}
+use Rattle.std.specs.Prelude.{slice_index}
 use Rattle.clause_store.specs.declared.lit.Lit.{Lit}
-use Rattle.clause_store.specs.Lits.{positive_lit, sorted_clause, IsWithin, InRange}
-use Rattle.clause_store.specs.Clauses.{Clauses}
-use Rattle.clause_store.specs.Grew.{Grew}
+use Rattle.clause_store.specs.Lits.{InRange}
 use Rattle.clause_store.specs.Truth.{Satisfies}
-use Rattle.clause_store.specs.Extends.{Extends, Are, Always}
+use Rattle.clause_store.specs.Extends.{Always}
 use Rattle.clause_store.proofs.Truths.{within_more, all_true-append, and_left, and_right}
 use Rattle.clause_store.proofs.Blocks.{next_are}
-use Rattle.clause_store.proofs.Grows.{stored-append, grew_front, grew_next}
 use Rattle.formulas.specs.declared.formula.Formula.{Formula}
-use Rattle.formulas.specs.Formulas.{nodes_of, width_of}
-use Rattle.clause_translation.specs.Definition.{Definition, definition}
+use Rattle.formulas.specs.Formulas.{width_of}
+use Rattle.clause_translation.specs.Definition.{definition}
 use Rattle.clause_translation.proofs.Parts.{root_is, some_node}
 use Rattle.clause_translation.proofs.Defines.{defines}
-use Rattle.totalizer.specs.Counter.{Due, count_of, IsUnary, AreFresh}
-use Rattle.agent_copies.specs.Counter.{truth_of, IsCounter}
-use Rattle.agent_copies.specs.Differences.{fresh_vars}
-use Rattle.agent_copies.specs.Copy.{CopyDue, fresh_lits, copy_due, IsCopy}
+use Rattle.totalizer.specs.Counter.{Due, fresh_vars, AreFresh}
+use Rattle.agent_copies.specs.Counter.{IsCounter}
+use Rattle.agent_copies.specs.Copy.{fresh_lits, copy_due, IsCopy}
 
 -- what the law of a distance says
 abbrev pub Counts : (List Bool → List Bool → ℕ) → (ℕ → ℕ) → (ℕ → List Lit → List Lit → Due) → Type 0
@@ -77,6 +73,7 @@ copy_is dist most due law v shared base lo hi in_range wide =
     let grows = counted.extends.grows in
     let few = counted.few in
     record {
+      own = refl;
       extends = next_are Always Always (v + n) d.root c.vars d.clauses c.clauses defined.extends counted.extends (λ b p r. tt);
       few = omega (arith, rn, few);
       root = λ b r. defined.value b (split b r).0;

@@ -1,22 +1,13 @@
 -- Steps of the loops, and what the counters' calls need.
-use Rattle.std.proofs.Common.{◌≡◌, ℕ, zero, suc, ◌+◌, ◌<◌, ◌≤◌, ◌^◌, List, [], ◌∷◌, ◌++◌, length, refl, sym, ap, ◌∙◌, subst, arith, add-one, append_assoc, Result, Ok, Err}
+use Rattle.std.proofs.Common.{◌≡◌, ℕ, zero, suc, ◌+◌, ◌<◌, List, [], ◌∷◌, ◌++◌, length, refl, ap, ◌∙◌, subst, arith, add-one, Result, Ok, Err}
 use Rattle.std.specs.Prelude.{map, slice_index_or, OnErr}
-use Rattle.std.specs.List.{All}
-use Rattle.std.proofs.lemmas.List.Elements.{All-nil, All-cons}
 use Rattle.clause_store.specs.declared.lit.Lit.{Lit}
 use Rattle.clause_store.specs.Lits.{positive_lit, sorted_clause, IsWithin, InRange}
 use Rattle.clause_store.specs.Clauses.{Clauses}
 use Rattle.clause_store.specs.Grew.{Grew}
 use Rattle.clause_translation.specs.Definition.{atom_lit}
-use Rattle.agent_copies.specs.Differences.{difference_clauses, difference_at, fresh_vars}
+use Rattle.agent_copies.specs.Differences.{difference_clauses, difference_at}
 use Rattle.agent_copies.specs.Copy.{fresh_lits}
-
-fresh_more : (v i : ℕ) → fresh_vars v (suc i) ≡ fresh_vars v i ++ (v + i + 1) ∷ []
-fresh_more v zero = let e : v + 1 ≡ v + 0 + 1 = omega arith in ap (λ n. n ∷ []) e
-fresh_more v (suc i) = let e : v + 1 + i + 1 ≡ v + suc i + 1 = omega arith in ap (λ l. (v + 1) ∷ l) (fresh_more (v + 1) i ∙ ap (λ n. fresh_vars (v + 1) i ++ n ∷ []) e)
-
-pub fresh_step : (v i : ℕ) → fresh_vars v (i + 1) ≡ fresh_vars v i ++ (v + i + 1) ∷ []
-fresh_step v i = rw (add-one i) (fresh_more v i)
 
 pub lit_within : (v : ℕ) (xs : List Lit) (k : ℕ) (d : Lit) → InRange v xs → k < length xs → IsWithin v (slice_index_or xs k d)
 lit_within v [] k d h lt = absurd (omega arith)
@@ -44,10 +35,6 @@ place_grew v i n xs ys e d c now new lx ly is at g = subst (λ cs. Grew now new 
 
 pub place_list : (v i n : ℕ) (xs ys : List Lit) (e d c : Lit) (now new : List (List Lit)) → i < length xs → i < length ys → e ≡ positive_lit (n + 1) → n ≡ v + i → new ≡ now ++ map sorted_clause (difference_clauses e (slice_index_or xs i d) (slice_index_or ys i c)) → new ≡ now ++ map sorted_clause (difference_at v xs ys i)
 place_list v i n xs ys e d c now new lx ly is at g = g ∙ ap (λ cs. now ++ map sorted_clause cs) (place_is v i n xs ys e d c lx ly is at)
-
-pub vars_positive : (v n : ℕ) → All (λ x. 1 ≤ x) (fresh_vars v n)
-vars_positive v zero = All-nil (λ x. 1 ≤ x)
-vars_positive v (suc n) = All-cons (λ x. 1 ≤ x) (v + 1) (fresh_vars (v + 1) n) (omega arith) (vars_positive (v + 1) n)
 
 fresh_lits_more : (v i : ℕ) → fresh_lits v (suc i) ≡ fresh_lits v i ++ positive_lit (v + i + 1) ∷ []
 fresh_lits_more v zero = let e : v + 1 ≡ v + 0 + 1 = omega arith in ap (λ n. positive_lit n ∷ []) e

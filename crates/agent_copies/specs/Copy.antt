@@ -7,9 +7,8 @@ use Rattle.clause_store.specs.Extends.{Extends, Are, Always}
 use Rattle.formulas.specs.declared.formula.Formula.{Formula}
 use Rattle.formulas.specs.Formulas.{nodes_of, holds}
 use Rattle.clause_translation.specs.Definition.{definition}
-use Rattle.totalizer.specs.Counter.{Due, count_of, IsUnary, AreFresh}
+use Rattle.totalizer.specs.Counter.{Due, fresh_vars, count_of, IsUnary, AreFresh}
 use Rattle.agent_copies.specs.Counter.{truth_of}
-use Rattle.agent_copies.specs.Differences.{fresh_vars}
 
 -- clauses as they are made, the number of variables then, the own literals, the root of the base and the outputs of
 -- the counter
@@ -32,10 +31,12 @@ copy_due due v shared base =
     let counter = due defined.root shared own in
     record { clauses = defined.clauses ++ counter.clauses; vars = counter.vars; own = own; root = defined.root; away = counter.outputs }
 
--- whatever the own literals are, the clauses hold in exactly one extension; there the root has the value of the base
--- at the own literals, and the counter counts the distance from the shared literals to the own ones. The own
--- literals, the root and the outputs are on distinct fresh variables
+-- the own literals are those of the variables after v, as many as the shared ones. Whatever their values are, the
+-- clauses hold in exactly one extension; there the root has the value of the base at the own literals, and the counter
+-- counts the distance from the shared literals to the own ones. The own variables, the root and the outputs are
+-- distinct and fresh
 pub record IsCopy (v : ℕ) (shared : List Lit) (base : Formula) (dist : List Bool → List Bool → ℕ) (top : ℕ) (c : CopyDue) : Type 0 where
+  pub own : c.own ≡ fresh_lits v (length shared)
   pub extends : Extends Always (Are c.clauses) (v + length shared) c.vars
   pub few : c.vars ≤ v + length shared + nodes_of base + 2 ^ 16
   pub root : (b : ℕ → Bool) → Satisfies b c.clauses → b c.root ≡ holds base (truth_of b c.own)

@@ -1,40 +1,31 @@
 -- What is due for a distance counts it.
-use Rattle.std.proofs.Common.{◌≡◌, ℕ, zero, suc, ◌+◌, ◌*◌, ◌<◌, ◌≤◌, ◌^◌, ◌/◌, Bool, true, false, not, ◌&&◌, ◌||◌, List, [], ◌∷◌, ◌++◌, length, map, take, drop, length-take, length-drop, refl, sym, ap, ◌∙◌, subst, arith}
-use Rattle.std.specs.Prelude.{nat_le, if◌then◌else◌, nat_lt, slice_index}
-use Rattle.std.proofs.lemmas.Bool.Decides.{nat_tests}
+use Rattle.std.proofs.Common.{◌≡◌, ℕ, zero, suc, ◌+◌, ◌*◌, ◌<◌, ◌≤◌, ◌^◌, Bool, true, false, not, ◌&&◌, ◌||◌, List, [], ◌∷◌, length, refl, sym, ap, ◌∙◌, subst, arith}
+use Rattle.std.specs.Prelude.{if◌then◌else◌, slice_index}
 use Rattle.clause_store.specs.declared.lit.Lit.{Lit}
-use Rattle.clause_store.specs.Lits.{positive_lit, negated, IsWithin, InRange, AreInRange}
-use Rattle.clause_store.specs.Truth.{Agree, Satisfies, lit_true}
+use Rattle.clause_store.specs.Lits.{positive_lit, negated, IsWithin, InRange}
+use Rattle.clause_store.specs.Truth.{Satisfies, lit_true}
 use Rattle.clause_store.specs.Extends.{Extends, Are, Always}
-use Rattle.clause_store.proofs.Truths.{lit_agree, within_more, all_true-append, and_left, and_right}
+use Rattle.clause_store.proofs.Truths.{lit_agree, lit_true-negated, all_true-append, and_left, and_right}
 use Rattle.clause_store.proofs.Blocks.{single, nothing, next_are, weaker}
 use Rattle.clause_translation.specs.Definition.{atom_lit}
+use Rattle.clause_translation.proofs.Defines.{lit_at}
 use Rattle.merge_model.specs.Distances.{apart, hamming, drastic}
-use Rattle.totalizer.specs.Counter.{Due, count_of, IsUnary, AreVarsWithin, AllUnary, AllVarsWithin, sum_of, leaves, AreFresh}
-use Rattle.totalizer.specs.Joined.{joined}
-use Rattle.totalizer.specs.Plus.{fresh_outputs, plus_due}
-use Rattle.totalizer.specs.Total.{sum_due, alone_due, total_by, total_due, IsTotal}
-use Rattle.totalizer.specs.Either.{any_of, either_due, IsEither}
-use Rattle.totalizer.proofs.Steps.{length-fresh}
-use Rattle.totalizer.proofs.Law.{index_fresh, joined_to}
+use Rattle.totalizer.specs.Counter.{Due, fresh_vars, AllUnary, sum_of, leaves}
+use Rattle.totalizer.specs.Joined.{joined_blocks}
+use Rattle.totalizer.specs.Total.{total_due}
+use Rattle.totalizer.specs.Either.{any_of, either_due}
+use Rattle.totalizer.proofs.FreshVars.{length-fresh_vars, index_fresh_vars, fresh_vars_within}
+use Rattle.totalizer.proofs.Law.{joined_to}
 use Rattle.totalizer.proofs.Totals.{total_law}
-use Rattle.totalizer.proofs.Sizes.{leaf_unary, leaves_unary, leaves_within, length-leaves, size, size_leaves, total_size, one_fresh, total_fresh}
+use Rattle.totalizer.proofs.Sizes.{leaves_unary, leaves_within, length-leaves, size, size_leaves, total_size, one_fresh, total_fresh}
 use Rattle.totalizer.proofs.Disjunctions.{either_is}
 use Rattle.agent_copies.specs.Counter.{truth_of, IsCounter}
-use Rattle.agent_copies.specs.Differences.{difference_clauses, difference_at, fresh_vars, after_differences, hamming_due, drastic_due}
+use Rattle.agent_copies.specs.Differences.{difference_clauses, difference_at, hamming_due, drastic_due}
 
 -- whether two truth values differ
 abbrev pub differ : Bool → Bool → Bool
 differ true y = not y
 differ false y = y
-
-turned : (p x : Bool) → (if not p then x else not x) ≡ not (if p then x else not x)
-turned true x = refl
-turned false true = refl
-turned false false = refl
-
-negated_true : (b : ℕ → Bool) (l : Lit) → lit_true b (negated l) ≡ not (lit_true b l)
-negated_true b l = turned l.positive (b l.var)
 
 -- the truth table of a difference
 differ_to : (e x y : Bool) → ((not e || (x || (y || false))) && ((not e || (not x || (not y || false))) && ((e || (not x || (y || false))) && ((e || (x || (not y || false))) && true)))) ≡ true → e ≡ differ x y
@@ -62,10 +53,10 @@ spelled : (e x y nx ny : Bool) → nx ≡ not x → ny ≡ not y → ((not e || 
 spelled e x y nx ny p q = cc (p, q)
 
 difference_to : (b : ℕ → Bool) (e : ℕ) (x y : Lit) → Satisfies b (difference_clauses (positive_lit e) x y) → b e ≡ differ (lit_true b x) (lit_true b y)
-difference_to b e x y r = differ_to (b e) (lit_true b x) (lit_true b y) (sym (spelled (b e) (lit_true b x) (lit_true b y) (lit_true b (negated x)) (lit_true b (negated y)) (negated_true b x) (negated_true b y)) ∙ r)
+difference_to b e x y r = differ_to (b e) (lit_true b x) (lit_true b y) (sym (spelled (b e) (lit_true b x) (lit_true b y) (lit_true b (negated x)) (lit_true b (negated y)) (lit_true-negated b x) (lit_true-negated b y)) ∙ r)
 
 difference_from : (b : ℕ → Bool) (e : ℕ) (x y : Lit) → b e ≡ differ (lit_true b x) (lit_true b y) → Satisfies b (difference_clauses (positive_lit e) x y)
-difference_from b e x y r = spelled (b e) (lit_true b x) (lit_true b y) (lit_true b (negated x)) (lit_true b (negated y)) (negated_true b x) (negated_true b y) ∙ differ_from (b e) (lit_true b x) (lit_true b y) r
+difference_from b e x y r = spelled (b e) (lit_true b x) (lit_true b y) (lit_true b (negated x)) (lit_true b (negated y)) (lit_true-negated b x) (lit_true-negated b y) ∙ differ_from (b e) (lit_true b x) (lit_true b y) r
 
 difference_defines : (v : ℕ) (x y : Lit) → IsWithin v x → IsWithin v y → Extends Always (Are (difference_clauses (positive_lit (v + 1)) x y)) v (v + 1)
 difference_defines v x y hx hy =
@@ -78,28 +69,23 @@ difference_defines v x y hx hy =
     (λ b p r. difference_to b (v + 1) x y r)
     (λ b p r. difference_from b (v + 1) x y r)
 
-lit_in : (v : ℕ) (xs : List Lit) (k : ℕ) → InRange v xs → k < length xs → IsWithin v (atom_lit xs k)
-lit_in v [] k h lt = absurd (omega arith)
-lit_in v (l ∷ ls) zero h lt = h.0
-lit_in v (l ∷ ls) (suc k) h lt = lit_in v ls k h.1 (omega arith)
-
 wider : (v w : ℕ) (l : Lit) → v ≤ w → IsWithin v l → IsWithin w l
 wider v w l le h = (h.0, let z = h.1 in omega arith)
 
-differences_define : (v : ℕ) (xs ys : List Lit) (n : ℕ) → n ≤ length xs → n ≤ length ys → InRange v xs → InRange v ys → Extends Always (Are (joined (difference_at v xs ys) n)) v (v + n)
+differences_define : (v : ℕ) (xs ys : List Lit) (n : ℕ) → n ≤ length xs → n ≤ length ys → InRange v xs → InRange v ys → Extends Always (Are (joined_blocks (difference_at v xs ys) n)) v (v + n)
 differences_define v xs ys zero hx hy rx ry = let z : v ≡ v + 0 = omega arith in
     subst (λ w. Extends Always (Are []) v w) z (weaker Always Always (Are []) Always v v (nothing Always v (λ a b h p. tt)) (λ a b h p. tt) (λ a b h r. refl) (λ b p. p) (λ b p r. tt) (λ b p r. refl))
 differences_define v xs ys (suc n) hx hy rx ry =
     let z : v + n + 1 ≡ v + suc n = omega arith in
-    subst (λ w. Extends Always (Are (joined (difference_at v xs ys) (suc n))) v w) z
-    (next_are Always Always v (v + n) (v + n + 1) (joined (difference_at v xs ys) n) (difference_at v xs ys n) (differences_define v xs ys n (omega arith) (omega arith) rx ry)
-    (difference_defines (v + n) (atom_lit xs n) (atom_lit ys n) (wider v (v + n) (atom_lit xs n) (omega arith) (lit_in v xs n rx (omega arith))) (wider v (v + n) (atom_lit ys n) (omega arith) (lit_in v ys n ry (omega arith)))) (λ b p r. tt))
+    subst (λ w. Extends Always (Are (joined_blocks (difference_at v xs ys) (suc n))) v w) z
+    (next_are Always Always v (v + n) (v + n + 1) (joined_blocks (difference_at v xs ys) n) (difference_at v xs ys n) (differences_define v xs ys n (omega arith) (omega arith) rx ry)
+    (difference_defines (v + n) (atom_lit xs n) (atom_lit ys n) (wider v (v + n) (atom_lit xs n) (omega arith) (lit_at v xs n rx (omega arith))) (wider v (v + n) (atom_lit ys n) (omega arith) (lit_at v ys n ry (omega arith)))) (λ b p r. tt))
 
 -- each difference variable has its value
 abbrev pub AreDifferences : (ℕ → Bool) → ℕ → List Lit → List Lit → Type 0
 AreDifferences b v xs ys = (k : ℕ) → k < length xs → b (v + k + 1) ≡ differ (lit_true b (atom_lit xs k)) (lit_true b (atom_lit ys k))
 
-are_differences : (b : ℕ → Bool) (v : ℕ) (xs ys : List Lit) → Satisfies b (joined (difference_at v xs ys) (length xs)) → AreDifferences b v xs ys
+are_differences : (b : ℕ → Bool) (v : ℕ) (xs ys : List Lit) → Satisfies b (joined_blocks (difference_at v xs ys) (length xs)) → AreDifferences b v xs ys
 are_differences b v xs ys r = λ k lt. difference_to b (v + k + 1) (atom_lit xs k) (atom_lit ys k) (joined_to b (difference_at v xs ys) (length xs) r k lt)
 
 later : (b : ℕ → Bool) (v : ℕ) (x y : Lit) (xs ys : List Lit) → AreDifferences b v (x ∷ xs) (y ∷ ys) → AreDifferences b (v + 1) xs ys
@@ -107,22 +93,6 @@ later b v x y xs ys h = λ k lt. let e : v + 1 + k + 1 ≡ v + suc k + 1 = omega
 
 head : (b : ℕ → Bool) (v : ℕ) (x y : Lit) (xs ys : List Lit) → AreDifferences b v (x ∷ xs) (y ∷ ys) → b (v + 1) ≡ differ (lit_true b x) (lit_true b y)
 head b v x y xs ys h = let e : v + 1 ≡ v + 0 + 1 = omega arith in ap b e ∙ h 0 (omega arith)
-
--- variables in a row
-pub length-fresh_vars : (v n : ℕ) → length (fresh_vars v n) ≡ n
-length-fresh_vars v zero = refl
-length-fresh_vars v (suc n) = omega (arith, length-fresh_vars (v + 1) n)
-
-pub index_fresh_vars : (v n k : ℕ) → k < n → slice_index (fresh_vars v n) k ≡ v + k + 1
-index_fresh_vars v zero k lt = absurd (omega arith)
-index_fresh_vars v (suc n) zero lt = omega arith
-index_fresh_vars v (suc n) (suc k) lt = let e = index_fresh_vars (v + 1) n k (omega arith) in e ∙ omega arith
-
-pub vars_within : (v n w : ℕ) → v + n ≤ w → AreVarsWithin w (fresh_vars v n)
-vars_within v n w le = λ k lt.
-    let l : k < n = omega (arith, length-fresh_vars v n) in
-    let e = index_fresh_vars v n k l in
-    (omega arith, omega arith)
 
 apart_is : (t x y : Bool) (m n : ℕ) → t ≡ differ x y → m ≡ n → (if t then 1 else 0) + m ≡ apart x y + n
 apart_is true true true m n e f = cc
@@ -153,7 +123,8 @@ some_is false u false false v w e f = f
 
 -- some difference variable is true exactly where the drastic distance is 1
 some_differs : (b : ℕ → Bool) (v : ℕ) (xs ys : List Lit) → length xs ≡ length ys → AreDifferences b v xs ys → (if any_of b (fresh_vars v (length xs)) then 1 else 0) ≡ drastic (truth_of b xs) (truth_of b ys)
-some_differs b v [] ys e h = refl
+some_differs b v [] [] e h = refl
+some_differs b v [] (y ∷ ys) e h = absurd (omega arith)
 some_differs b v (x ∷ xs) [] e h = absurd (omega arith)
 some_differs b v (x ∷ xs) (y ∷ ys) e h =
     some_is (b (v + 1)) (any_of b (fresh_vars (v + 1) (length xs))) (lit_true b x) (lit_true b y) (truth_of b xs) (truth_of b ys) (head b v x y xs ys h) (some_differs b (v + 1) xs ys (omega arith) (later b v x y xs ys h))
@@ -193,9 +164,9 @@ hamming_is v xs ys e lo hi hx hy =
     let n = length xs in
     let vars = fresh_vars v n in
     let ls = leaves vars in
-    let ds = joined (difference_at v xs ys) n in
+    let ds = joined_blocks (difference_at v xs ys) n in
     let a = length-leaves vars ∙ length-fresh_vars v n in
-    let t = total_law (v + n) ls (omega (arith, a)) (leaves_within (v + n) vars (vars_within v n (v + n) (omega arith))) in
+    let t = total_law (v + n) ls (omega (arith, a)) (leaves_within (v + n) vars (fresh_vars_within v n (v + n) (omega arith))) in
     let split : (b : ℕ → Bool) → Are (hamming_due v xs ys).clauses b → Are ds b × Are (hamming_total v n).clauses b = λ b r. let s = sym (all_true-append b ds (hamming_total v n).clauses) ∙ r in (and_left _ _ s, and_right _ _ s) in
     record {
       extends = next_are Always (λ b. AllUnary b ls) v (v + n) (hamming_total v n).vars ds (hamming_total v n).clauses (differences_define v xs ys n (omega arith) (omega arith) hx hy) t.extends (λ b p r. leaves_unary b vars);
@@ -212,16 +183,16 @@ drastic_is v xs ys e lo hi hx hy =
     let n = length xs in
     let vars = fresh_vars v n in
     let d = either_due (v + n) vars in
-    let ds = joined (difference_at v xs ys) n in
-    let t = either_is (v + n) vars (vars_within v n (v + n) (omega arith)) in
+    let ds = joined_blocks (difference_at v xs ys) n in
+    let t = either_is (v + n) vars (fresh_vars_within v n (v + n) (omega arith)) in
     let split : (b : ℕ → Bool) → Are (drastic_due v xs ys).clauses b → Are ds b × Are d.clauses b = λ b r. let s = sym (all_true-append b ds d.clauses) ∙ r in (and_left _ _ s, and_right _ _ s) in
     record {
       extends = next_are Always Always v (v + n) (v + n + 1) ds d.clauses (differences_define v xs ys n (omega arith) (omega arith) hx hy) t.extends (λ b p r. tt);
       few = omega arith;
       size = refl;
       fresh = one_fresh v (v + n + 1) (v + n + 1) (omega arith) (omega arith);
-      in_order = λ b r. leaf_unary b (v + n + 1);
-      value = λ b r. ap (λ t. if t then 1 else 0) (t.value b (split b r).1) ∙ some_differs b v xs ys e (are_differences b v xs ys (split b r).0);
+      in_order = λ b r. t.in_order b (split b r).1;
+      value = λ b r. t.value b (split b r).1 ∙ some_differs b v xs ys e (are_differences b v xs ys (split b r).0);
     }
 
 -- there is room for the total of the difference variables

@@ -1,10 +1,10 @@
 -- Difference variables: one for each place of two lists of literals, true exactly where the two differ.
-use Rattle.std.specs.Prelude.{ℕ, zero, suc, ◌+◌, List, [], ◌∷◌, ◌++◌, length, map}
+use Rattle.std.specs.Prelude.{ℕ, ◌+◌, List, [], ◌∷◌, ◌++◌, length}
 use Rattle.clause_store.specs.declared.lit.Lit.{Lit}
 use Rattle.clause_store.specs.Lits.{positive_lit, negated}
 use Rattle.clause_translation.specs.Definition.{atom_lit}
-use Rattle.totalizer.specs.Counter.{Due, leaves}
-use Rattle.totalizer.specs.Joined.{joined}
+use Rattle.totalizer.specs.Counter.{Due, fresh_vars, leaves}
+use Rattle.totalizer.specs.Joined.{joined_blocks}
 use Rattle.totalizer.specs.Total.{total_due}
 use Rattle.totalizer.specs.Either.{either_due}
 
@@ -17,14 +17,9 @@ difference_clauses e x y =
 abbrev pub difference_at : ℕ → List Lit → List Lit → ℕ → List (List Lit)
 difference_at v xs ys i = difference_clauses (positive_lit (v + i + 1)) (atom_lit xs i) (atom_lit ys i)
 
--- the n variables after v
-abbrev pub fresh_vars : ℕ → ℕ → List ℕ
-fresh_vars v zero = []
-fresh_vars v (suc n) = (v + 1) ∷ fresh_vars (v + 1) n
-
 -- all difference variables first, then what is due over them
 abbrev pub after_differences : ℕ → List Lit → List Lit → Due → Due
-after_differences v xs ys d = record { clauses = joined (difference_at v xs ys) (length xs) ++ d.clauses; vars = d.vars; outputs = d.outputs }
+after_differences v xs ys d = record { clauses = joined_blocks (difference_at v xs ys) (length xs) ++ d.clauses; vars = d.vars; outputs = d.outputs }
 
 -- the number of places that differ: the total of the difference variables
 abbrev pub hamming_due : ℕ → List Lit → List Lit → Due

@@ -11,6 +11,7 @@ use clause_store::{ClauseList, Lit};
 use clause_translation::define;
 use edge::NoMemory;
 use formulas::Formula;
+use merge_model::Sequence;
 use std::alloc::Global;
 use totalizer::Unary;
 
@@ -19,7 +20,7 @@ use totalizer::Unary;
 #[derive(Drop)]
 pub struct AgentCopy {
     /// The own literals, one for each shared one, in order.
-    pub own: Vec<Lit>,
+    pub own: Sequence<Lit>,
     /// True exactly where the own literals satisfy the base.
     pub root: Lit,
     /// Counts the distance from the shared literals to the own ones.
@@ -58,7 +59,7 @@ pub fn copy_agent<D: Counted>(
     requires few_nodes { nodes_of base.now ≤ 4096 }
     requires known { width_of base.now ≤ length shared.now }
     requires room { clauses.old.vars + length shared.now + nodes_of base.now + 2 ^ 16 ≤ 2 ^ 31 }
-    ensures own { IfOk result (λ copy. copy.own.items ≡ (copy_due (D.due distance.now) clauses.old.vars shared.now base.now).own) }
+    ensures own { IfOk result (λ copy. copy.own ≡ (copy_due (D.due distance.now) clauses.old.vars shared.now base.now).own) }
     ensures root { IfOk result (λ copy. copy.root ≡ positive_lit (copy_due (D.due distance.now) clauses.old.vars shared.now base.now).root) }
     ensures away { IfOk result (λ copy. copy.away ≡ (copy_due (D.due distance.now) clauses.old.vars shared.now base.now).away) }
     ensures vars { OnOk result (clauses.new.vars ≡ (copy_due (D.due distance.now) clauses.old.vars shared.now base.now).vars) }
@@ -71,5 +72,6 @@ pub fn copy_agent<D: Counted>(
     let own = fresh_lits(alloc, clauses, shared.len())?;
     let root = define(clauses, base, &own)?;
     let away = distance.counter(alloc, clauses, shared, &own)?;
+    let own = Sequence::from_vec(own);
     Ok(AgentCopy { own, root, away })
 }

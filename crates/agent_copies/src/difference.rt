@@ -3,8 +3,9 @@
 ghost use Rattle.std.specs.Prelude.{◌≡◌, ℕ, ◌+◌, ◌<◌, ◌≤◌, ◌^◌, [], ◌∷◌, ◌++◌, IfOk, OnOk, OnErr, length, map};
 ghost use Rattle.clause_store.specs.Lits.{sorted_clause, IsWithin, InRange};
 ghost use Rattle.clause_store.specs.Grew.{Grew};
-ghost use Rattle.totalizer.specs.Joined.{joined};
-ghost use Rattle.agent_copies.specs.Differences.{difference_clauses, difference_at, fresh_vars};
+ghost use Rattle.totalizer.specs.Counter.{fresh_vars};
+ghost use Rattle.totalizer.specs.Joined.{joined_blocks};
+ghost use Rattle.agent_copies.specs.Differences.{difference_clauses, difference_at};
 
 use clause_store::{ClauseList, Lit};
 use edge::NoMemory;
@@ -43,8 +44,8 @@ pub fn add_differences(
     requires own_in { InRange clauses.old.vars own.now }
     requires room { clauses.old.vars + length shared.now ≤ 2 ^ 31 }
     ensures vars { OnOk result (clauses.new.vars ≡ clauses.old.vars + length shared.now) }
-    ensures list { OnOk result (clauses.new.list ≡ clauses.old.list ++ map sorted_clause (joined (difference_at clauses.old.vars shared.now own.now) (length shared.now))) }
-    ensures err { OnErr result (Grew clauses.old clauses.new (joined (difference_at clauses.old.vars shared.now own.now) (length shared.now))) }
+    ensures list { OnOk result (clauses.new.list ≡ clauses.old.list ++ map sorted_clause (joined_blocks (difference_at clauses.old.vars shared.now own.now) (length shared.now))) }
+    ensures err { OnErr result (Grew clauses.old clauses.new (joined_blocks (difference_at clauses.old.vars shared.now own.now) (length shared.now))) }
 {
     for i in 0..shared.len() {
         let difference = clauses.fresh();
@@ -54,7 +55,7 @@ pub fn add_differences(
 }
 
 /// The variables after one.
-#[tactic(auto, using(crate::proofs::Steps::fresh_step))]
+#[tactic(auto, using(totalizer::proofs::FreshVars::fresh_vars_next))]
 pub fn vars_after(alloc: Global, last: u32, count: usize) -> Result<Vec<u32>, NoMemory>
     requires { last + count ≤ 2 ^ 31 }
     ensures { IfOk result (λ vars. vars.items ≡ fresh_vars last count) }

@@ -1,12 +1,13 @@
 -- Steps of the calls that append levels.
 use Rattle.std.proofs.Common.{◌≡◌, ℕ, zero, suc, ◌+◌, ◌-◌, ◌<◌, ◌≤◌, List, [], ◌∷◌, ◌++◌, length, get_or, refl, sym, ap, ◌∙◌, subst, arith, append_assoc, All}
 use Rattle.std.specs.Prelude.{map}
+use Rattle.std.proofs.lemmas.List.{append-nil}
 use Rattle.std.proofs.lemmas.List.Elements.{All-nil, All-cons, All-head, All-tail}
 use Rattle.clause_store.specs.declared.lit.Lit.{Lit}
 use Rattle.clause_store.specs.Lits.{sorted_clause}
 use Rattle.clause_store.specs.Clauses.{Clauses}
 use Rattle.clause_store.specs.Grew.{Grew}
-use Rattle.clause_store.proofs.Grows.{stored-append, grew_front}
+use Rattle.clause_store.proofs.Grows.{stored-append, grew_front, grew_next}
 use Rattle.totalizer.specs.Counter.{AreVarsWithin, AllVarsWithin, leaves}
 use Rattle.totalizer.specs.Total.{total_due}
 use Rattle.totalizer.proofs.Sizes.{length-leaves, size_leaves}
@@ -14,23 +15,30 @@ use Rattle.aggregators.specs.Levels.{top_of, column, totals_due}
 use Rattle.aggregators.specs.LevelOutputs.{column_length}
 use Rattle.aggregators.specs.SumLevel.{total_bound}
 
-pub append_none : {X : Type 0} (xs : List X) → xs ++ [] ≡ xs
-append_none [] = refl
-append_none (x ∷ xs) = ap (λ z. x ∷ z) (append_none xs)
-
 -- all that is due
 pub grew_whole : (old new : Clauses) (due : List (List Lit)) → new.list ≡ old.list ++ map sorted_clause due → old.vars ≤ new.vars → Grew old new due
-grew_whole old new due e le = record { missing = []; part = append_none new.list ∙ e; more = le }
+grew_whole old new due e le = record { added = map sorted_clause due; missing = []; kept = e; part = append-nil (map sorted_clause due); more = le }
 
--- a first part, and what is due after it
-pub grew_rest : (old now new : Clauses) (first rest all : List (List Lit)) → now.list ++ map sorted_clause (first ++ rest) ≡ old.list ++ map sorted_clause all → old.vars ≤ now.vars → Grew now new first → Grew old new all
-grew_rest old now new first rest all e le g =
-    let whole = grew_front now new first rest g in
-    record { missing = whole.missing; part = whole.part ∙ e; more = let m = whole.more in omega arith }
+-- the list has grown by the first of the clauses that are due in all, up to the rest
+pub record IsDueStill (old now : List (List Lit)) (rest all : List (List Lit)) : Type 0 where
+  pub first : List (List Lit)
+  pub list : now ≡ old ++ map sorted_clause first
+  pub part : first ++ rest ≡ all
 
-pub list_rest : (old now new : List (List Lit)) (first rest all : List (List Lit)) → now ++ map sorted_clause (first ++ rest) ≡ old ++ map sorted_clause all → new ≡ now ++ map sorted_clause first → new ++ map sorted_clause rest ≡ old ++ map sorted_clause all
-list_rest old now new first rest all e f =
-    ap (λ x. x ++ map sorted_clause rest) f ∙ append_assoc now (map sorted_clause first) (map sorted_clause rest) ∙ ap (λ x. now ++ x) (sym (stored-append first rest)) ∙ e
+pub due_all : (old : List (List Lit)) (all : List (List Lit)) → IsDueStill old old all all
+due_all old all = record { first = []; list = sym (append-nil old); part = refl }
+
+-- a refusal in what is due next
+pub grew_rest : (old now new : Clauses) (next rest all : List (List Lit)) → IsDueStill old.list now.list (next ++ rest) all → old.vars ≤ now.vars → Grew now new next → Grew old new all
+grew_rest old now new next rest all d le g =
+    subst (λ cs. Grew old new cs) d.part (grew_next old now new d.first (next ++ rest) d.list le (grew_front now new next rest g))
+
+pub list_rest : (old now new : List (List Lit)) (next rest all : List (List Lit)) → IsDueStill old now (next ++ rest) all → new ≡ now ++ map sorted_clause next → IsDueStill old new rest all
+list_rest old now new next rest all d f = record {
+  first = d.first ++ next;
+  list = f ∙ ap (λ x. x ++ map sorted_clause next) d.list ∙ append_assoc old (map sorted_clause d.first) (map sorted_clause next) ∙ ap (λ x. old ++ x) (sym (stored-append d.first next));
+  part = append_assoc d.first next rest ∙ d.part;
+}
 
 pub levels_rest : {X : Type 0} (now new : List X) (x : X) (rest all : List X) → now ++ x ∷ rest ≡ all → new ≡ now ++ x ∷ [] → new ++ rest ≡ all
 levels_rest now new x rest all e f = ap (λ y. y ++ rest) f ∙ append_assoc now (x ∷ []) rest ∙ e
@@ -63,13 +71,13 @@ longer k n (c ∷ cs) lt s =
 
 -- one level fewer is due
 pub step_list : (left v w : ℕ) (parts : List (List ℕ)) (old now new all : List (List Lit)) → 1 ≤ left → w ≡ (total_due v (leaves (column (left - 1) parts))).vars →
-    now ++ map sorted_clause (totals_due left v parts).clauses ≡ old ++ map sorted_clause all → new ≡ now ++ map sorted_clause (total_due v (leaves (column (left - 1) parts))).clauses →
-    new ++ map sorted_clause (totals_due (left - 1) w parts).clauses ≡ old ++ map sorted_clause all
+    IsDueStill old now (totals_due left v parts).clauses all → new ≡ now ++ map sorted_clause (total_due v (leaves (column (left - 1) parts))).clauses →
+    IsDueStill old new (totals_due (left - 1) w parts).clauses all
 step_list left v w parts old now new all some is h f =
     let e : left ≡ suc (left - 1) = omega arith in
     let first = total_due v (leaves (column (left - 1) parts)) in
-    let due = subst (λ n. now ++ map sorted_clause (totals_due n v parts).clauses ≡ old ++ map sorted_clause all) e h in
-    subst (λ u. new ++ map sorted_clause (totals_due (left - 1) u parts).clauses ≡ old ++ map sorted_clause all) (sym is)
+    let due = subst (λ n. IsDueStill old now (totals_due n v parts).clauses all) e h in
+    subst (λ u. IsDueStill old new (totals_due (left - 1) u parts).clauses all) (sym is)
     (list_rest old now new first.clauses (totals_due (left - 1) first.vars parts).clauses all due f)
 
 pub step_vars : (left v w m : ℕ) (parts : List (List ℕ)) → 1 ≤ left → w ≡ (total_due v (leaves (column (left - 1) parts))).vars → (totals_due left v parts).vars ≡ m → (totals_due (left - 1) w parts).vars ≡ m
@@ -87,20 +95,22 @@ step_levels left v w parts now new all x some is outputs h f =
     subst (λ u. new ++ (totals_due (left - 1) u parts).levels ≡ all) (sym is)
     (levels_rest now new first.outputs (totals_due (left - 1) first.vars parts).levels all due (f ∙ ap (λ y. now ++ y ∷ []) outputs))
 
-pub step_grew : (left : ℕ) (parts : List (List ℕ)) (old now new : Clauses) (all : List (List Lit)) → 1 ≤ left → now.list ++ map sorted_clause (totals_due left now.vars parts).clauses ≡ old.list ++ map sorted_clause all → old.vars ≤ now.vars →
+pub step_grew : (left : ℕ) (parts : List (List ℕ)) (old now new : Clauses) (all : List (List Lit)) → 1 ≤ left → IsDueStill old.list now.list (totals_due left now.vars parts).clauses all → old.vars ≤ now.vars →
     Grew now new (total_due now.vars (leaves (column (left - 1) parts))).clauses → Grew old new all
 step_grew left parts old now new all some h le g =
     let e : left ≡ suc (left - 1) = omega arith in
     let first = total_due now.vars (leaves (column (left - 1) parts)) in
-    let due = subst (λ n. now.list ++ map sorted_clause (totals_due n now.vars parts).clauses ≡ old.list ++ map sorted_clause all) e h in
+    let due = subst (λ n. IsDueStill old.list now.list (totals_due n now.vars parts).clauses all) e h in
     grew_rest old now new first.clauses (totals_due (left - 1) first.vars parts).clauses all due le g
 
 -- no level is left
-pub end_list : (left v : ℕ) (parts : List (List ℕ)) (now all : List (List Lit)) → left ≡ 0 → now ++ map sorted_clause (totals_due left v parts).clauses ≡ all → now ≡ all
-end_list left v parts now all e h = sym (append_none now) ∙ subst (λ n. now ++ map sorted_clause (totals_due n v parts).clauses ≡ all) e h
+pub end_list : (left v : ℕ) (parts : List (List ℕ)) (old now all : List (List Lit)) → left ≡ 0 → IsDueStill old now (totals_due left v parts).clauses all → now ≡ old ++ map sorted_clause all
+end_list left v parts old now all e h =
+    let d = subst (λ n. IsDueStill old now (totals_due n v parts).clauses all) e h in
+    d.list ∙ ap (λ x. old ++ map sorted_clause x) (sym (append-nil d.first) ∙ d.part)
 
 pub end_levels : (left v : ℕ) (parts now all : List (List ℕ)) → left ≡ 0 → now ++ (totals_due left v parts).levels ≡ all → now ≡ all
-end_levels left v parts now all e h = sym (append_none now) ∙ subst (λ n. now ++ (totals_due n v parts).levels ≡ all) e h
+end_levels left v parts now all e h = sym (append-nil now) ∙ subst (λ n. now ++ (totals_due n v parts).levels ≡ all) e h
 
 pub end_vars : (left v m : ℕ) (parts : List (List ℕ)) → left ≡ 0 → (totals_due left v parts).vars ≡ m → v ≡ m
 end_vars left v m parts e h = subst (λ n. (totals_due n v parts).vars ≡ m) e h

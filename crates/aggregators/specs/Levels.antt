@@ -1,12 +1,11 @@
 -- The levels of an aggregator: counters whose values are the level values of the repeated distances.
-use Rattle.std.specs.Prelude.{◌≡◌, ℕ, zero, suc, ◌+◌, ◌<◌, ◌≤◌, ◌^◌, Bool, List, [], ◌∷◌, ◌++◌, length, map, replicate, sum, All, Contains, slice_index, ◌⊎◌}
+use Rattle.std.specs.Prelude.{◌≡◌, ℕ, zero, suc, ◌+◌, ◌<◌, ◌≤◌, ◌^◌, Bool, List, [], ◌∷◌, ◌++◌, length, map, sum, All, Contains, slice_index, ◌⊎◌}
 use Rattle.std.specs.List.{AllZip, concat}
 use Rattle.clause_store.specs.declared.lit.Lit.{Lit}
 use Rattle.clause_store.specs.Extends.{Extends, Are}
-use Rattle.totalizer.specs.Counter.{count_of, AllUnary, AllVarsWithin, AreDistinct, leaves}
+use Rattle.totalizer.specs.Counter.{fresh_vars, count_of, AllUnary, AllVarsWithin, AreDistinct, leaves}
 use Rattle.totalizer.specs.Either.{either_due}
-use Rattle.totalizer.specs.Joined.{joined}
-use Rattle.totalizer.specs.Plus.{fresh_outputs}
+use Rattle.totalizer.specs.Joined.{joined_blocks}
 use Rattle.totalizer.specs.Total.{total_due}
 use Rattle.merge_model.specs.Merging.{repeated}
 
@@ -15,12 +14,6 @@ pub record LevelsDue : Type 0 where
   pub clauses : List (List Lit)
   pub vars : ℕ
   pub levels : List (List ℕ)
-
--- each counter as often as its number of times says, in order
-abbrev pub repeats : List ℕ → List (List ℕ) → List (List ℕ)
-repeats [] cs = []
-repeats (t ∷ times) [] = []
-repeats (t ∷ times) (c ∷ cs) = replicate t c ++ repeats times cs
 
 -- the values of counters
 abbrev pub counts_of : (ℕ → Bool) → List (List ℕ) → List ℕ
@@ -38,15 +31,19 @@ column k cs = map (λ c. slice_index c k) cs
 -- of the sum: one level, the total of the repeated counters
 abbrev pub sum_due : ℕ → List (List ℕ) → List ℕ → LevelsDue
 sum_due v aways times =
-    let total = total_due v (repeats times aways) in
+    let total = total_due v (repeated times aways) in
     record { clauses = total.clauses; vars = total.vars; levels = total.outputs ∷ [] }
+
+-- either of the counters' outputs k, from 0: the clauses of output k of the maximum's level
+abbrev pub output_clauses : ℕ → List (List ℕ) → ℕ → List (List Lit)
+output_clauses v aways k = (either_due (v + k) (column k aways)).clauses
 
 -- of the maximum: one level, whose outputs are each either of the counters' outputs of that number
 abbrev pub max_due : ℕ → List (List ℕ) → List ℕ → LevelsDue
 max_due v aways times = record {
-  clauses = joined (λ k. (either_due (v + k) (column k aways)).clauses) (top_of aways);
+  clauses = joined_blocks (output_clauses v aways) (top_of aways);
   vars = v + top_of aways;
-  levels = fresh_outputs v (top_of aways) ∷ [];
+  levels = fresh_vars v (top_of aways) ∷ [];
 }
 
 -- of the k lowest outputs, from the highest down, the total of the parts' outputs of that number
@@ -59,7 +56,7 @@ totals_due (suc k) v parts =
 
 -- of leximax: a level for each output number, from the highest down
 abbrev pub leximax_due : ℕ → List (List ℕ) → List ℕ → LevelsDue
-leximax_due v aways times = totals_due (top_of aways) v (repeats times aways)
+leximax_due v aways times = totals_due (top_of aways) v (repeated times aways)
 
 -- counters and times that have levels, after v variables
 pub record HaveLevels (v : ℕ) (aways : List (List ℕ)) (times : List ℕ) : Type 0 where

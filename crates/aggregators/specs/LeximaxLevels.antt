@@ -18,8 +18,8 @@ use Rattle.ranks.specs.Ranks.{at_least, bit, counts, downs}
 use Rattle.ranks.proofs.Counts.{at_least_most}
 use Rattle.merge_model.specs.Merging.{repeated}
 use Rattle.aggregators.specs.LevelValues.{leximax_values}
-use Rattle.aggregators.specs.Levels.{repeats, counts_of, top_of, column, totals_due, leximax_due, FitLevels, HaveLevels, AreLevels}
-use Rattle.aggregators.specs.Repeats.{unary_repeats, within_repeats, sized_repeats, counts_repeats, length_repeats, some_repeats, length_repeated, repeats_alone}
+use Rattle.aggregators.specs.Levels.{counts_of, top_of, column, totals_due, leximax_due, FitLevels, HaveLevels, AreLevels}
+use Rattle.aggregators.specs.Repeats.{unary_repeated, within_repeated, sized_repeated, counts_repeated, length_repeated, some_repeated, repeated_alone}
 use Rattle.aggregators.specs.LevelOutputs.{column_length, totals_outputs}
 use Rattle.aggregators.specs.SumLevel.{total_bound}
 
@@ -97,19 +97,19 @@ totals_fit (suc k) v parts full some same =
 pub leximax_is : (v : ℕ) (aways : List (List ℕ)) (times : List ℕ) → HaveLevels v aways times → AreLevels v aways times leximax_values (leximax_due v aways times)
 leximax_is v aways times h =
     let n = top_of aways in
-    let parts = repeats times aways in
-    let size = length_repeats times aways h.lengths in
-    let some = some_repeats v aways times h in
-    let sized = sized_repeats n times aways h.sized in
-    let t = totals_are n n v parts some (omega (arith, h.few)) (within_repeats v times aways h.within) sized (omega arith) in
-    let o = totals_outputs n v parts (concat aways) some sized (λ one. ap concat (repeats_alone times aways h.lengths h.positive one)) in
+    let parts = repeated times aways in
+    let size = length_repeated times aways h.lengths in
+    let some = some_repeated v aways times h in
+    let sized = sized_repeated n times aways h.sized in
+    let t = totals_are n n v parts some (omega (arith, h.few)) (within_repeated v times aways h.within) sized (omega arith) in
+    let o = totals_outputs n v parts (concat aways) some sized (λ one. ap concat (repeated_alone times aways h.lengths h.positive one)) in
     let d = totals_due n v parts in
     record {
       extends = weaker (λ b. AllUnary b aways) Always (Are d.clauses) (Are d.clauses) v d.vars t.extends (λ a b h' p. all_unary_agree v a b aways h' h.within p) t.extends.within (λ b p. tt) (λ b p r. r) (λ b p r. r);
       few = omega (arith, t.few, h.small);
       within = t.within;
       in_order = λ b p r. t.in_order b r;
-      values = λ b p r. t.values b (unary_repeats b times aways p) r ∙ ap (λ (ns : List ℕ). counts (downs n) ns) (counts_repeats b times aways);
+      values = λ b p r. t.values b (unary_repeated b times aways p) r ∙ ap (λ (ns : List ℕ). counts (downs n) ns) (counts_repeated b times aways);
       fits = λ us same small. totals_fit n v parts (repeated times us) some (omega (arith, length_repeated times us (same ∙ h.lengths)));
       origin = o.origin;
       distinct = o.distinct;

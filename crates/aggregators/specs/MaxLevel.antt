@@ -8,14 +8,12 @@ use Rattle.std.proofs.lemmas.List.Elements.{All-head, All-tail}
 use Rattle.clause_store.specs.declared.lit.Lit.{Lit}
 use Rattle.clause_store.specs.Extends.{Extends, Are, Always}
 use Rattle.clause_store.proofs.Blocks.{weaker, next_are}
-use Rattle.totalizer.specs.Counter.{count_of, AllUnary, AllVarsWithin}
+use Rattle.totalizer.specs.Counter.{fresh_vars, count_of, AllUnary, AllVarsWithin}
 use Rattle.totalizer.specs.Either.{any_of, either_due}
-use Rattle.totalizer.specs.Joined.{joined}
-use Rattle.totalizer.specs.Plus.{fresh_outputs}
-use Rattle.totalizer.proofs.Disjunctions.{either_is}
-use Rattle.totalizer.proofs.Law.{count_le, index_fresh, joined_to, more_vars}
-use Rattle.totalizer.proofs.Sizes.{fresh_outputs_are}
-use Rattle.totalizer.proofs.Steps.{length-fresh}
+use Rattle.totalizer.specs.Joined.{joined_blocks}
+use Rattle.totalizer.proofs.Disjunctions.{either_is, either_to}
+use Rattle.totalizer.proofs.FreshVars.{length-fresh_vars, index_fresh_vars, fresh_vars_within, fresh_vars_are, count_fresh_vars}
+use Rattle.totalizer.proofs.Law.{count_le, joined_to, more_vars}
 use Rattle.totalizer.proofs.Totals.{all_unary_agree}
 use Rattle.ranks.specs.Ranks.{greatest}
 use Rattle.ranks.proofs.Counts.{at_most}
@@ -23,27 +21,23 @@ use Rattle.ranks.proofs.Laws.{greatest_le}
 use Rattle.merge_model.specs.Merging.{repeated}
 use Rattle.merge_model.proofs.Fulls.{repeated_small}
 use Rattle.aggregators.specs.LevelValues.{max_values}
-use Rattle.aggregators.specs.Levels.{counts_of, top_of, column, max_due, HaveLevels, AreLevels}
+use Rattle.aggregators.specs.Levels.{counts_of, top_of, column, output_clauses, max_due, HaveLevels, AreLevels}
 use Rattle.aggregators.specs.LevelOutputs.{HaveOutputs, fresh_have}
 use Rattle.aggregators.specs.LeximaxLevels.{no_clause, column_within}
 
--- the clauses of the output of one number
-abbrev pub output_clauses : ℕ → List (List ℕ) → ℕ → List (List Lit)
-output_clauses v aways k = (either_due (v + k) (column k aways)).clauses
-
-pub outputs_extend : (n m v : ℕ) (aways : List (List ℕ)) → AllVarsWithin v aways → All (λ c. length c ≡ m) aways → n ≤ m → Extends Always (Are (joined (output_clauses v aways) n)) v (v + n)
+pub outputs_extend : (n m v : ℕ) (aways : List (List ℕ)) → AllVarsWithin v aways → All (λ c. length c ≡ m) aways → n ≤ m → Extends Always (Are (joined_blocks (output_clauses v aways) n)) v (v + n)
 outputs_extend zero m v aways w s le = subst (λ (u : ℕ). Extends Always (Are []) v u) (let e : v ≡ v + 0 = omega arith in e) (no_clause v)
 outputs_extend (suc n) m v aways w s le =
     let d = either_due (v + n) (column n aways) in
-    subst (λ (u : ℕ). Extends Always (Are (joined (output_clauses v aways) (suc n))) v u) (let e : v + n + 1 ≡ v + suc n = omega arith in e)
-    (next_are Always Always v (v + n) d.vars (joined (output_clauses v aways) n) d.clauses
+    subst (λ (u : ℕ). Extends Always (Are (joined_blocks (output_clauses v aways) (suc n))) v u) (let e : v + n + 1 ≡ v + suc n = omega arith in e)
+    (next_are Always Always v (v + n) d.vars (joined_blocks (output_clauses v aways) n) d.clauses
     (outputs_extend n m v aways w s (omega arith))
     (either_is (v + n) (column n aways) (more_vars v (v + n) (column n aways) (omega arith) (column_within v n m aways w s (omega arith)))).extends
     (λ b p r. tt))
 
-pub output_is : (b : ℕ → Bool) (m v : ℕ) (aways : List (List ℕ)) → AllVarsWithin v aways → All (λ c. length c ≡ m) aways → Are (joined (output_clauses v aways) m) b → (k : ℕ) → k < m → b (v + k + 1) ≡ any_of b (column k aways)
+pub output_is : (b : ℕ → Bool) (m v : ℕ) (aways : List (List ℕ)) → AllVarsWithin v aways → All (λ c. length c ≡ m) aways → Are (joined_blocks (output_clauses v aways) m) b → (k : ℕ) → k < m → b (v + k + 1) ≡ any_of b (column k aways)
 output_is b m v aways w s r k lt =
-    (either_is (v + k) (column k aways) (more_vars v (v + k) (column k aways) (omega arith) (column_within v k m aways w s lt))).value b
+    either_to b (v + k + 1) (column k aways)
     (joined_to b (output_clauses v aways) m r k lt)
 
 below_either : (k m n : ℕ) → (nat_lt k m || nat_lt k n) ≡ nat_lt k (max m n)
@@ -55,27 +49,6 @@ any_column b k n (c ∷ cs) u s lt =
     ap (λ x. x || any_of b (column k cs)) (u.0 k (omega (arith, All-head (λ x. length x ≡ n) c cs s)))
     ∙ ap (λ y. nat_lt k (count_of b c) || y) (any_column b k n cs u.1 (All-tail (λ x. length x ≡ n) c cs s) lt)
     ∙ below_either k (count_of b c) (greatest (counts_of b cs))
-
-more_step : (s t : Bool) (m n : ℕ) → n ≡ (if t then suc m else m) → (if s then suc n else n) ≡ (if t then suc (if s then suc m else m) else (if s then suc m else m))
-more_step true true m n e = ap suc e
-more_step true false m n e = ap suc e
-more_step false true m n e = e
-more_step false false m n e = e
-
-count_next : (n c : ℕ) (t : Bool) (m : ℕ) → m ≡ min n c → t ≡ nat_lt n c → (if t then suc m else m) ≡ min (suc n) c
-count_next n c t m e f = grind (arith, nat_tests)
-
-count_more : (b : ℕ → Bool) (xs : List ℕ) (x : ℕ) → count_of b (xs ++ x ∷ []) ≡ (if b x then suc (count_of b xs) else count_of b xs)
-count_more b [] x = refl
-count_more b (y ∷ xs) x = more_step (b y) (b x) (count_of b xs) (count_of b (xs ++ x ∷ [])) (count_more b xs x)
-
-count_fresh : (v n c : ℕ) (b : ℕ → Bool) → ((m : ℕ) → m < n → b (v + m + 1) ≡ nat_lt m c) → count_of b (fresh_outputs v n) ≡ min n c
-count_fresh v zero c b h = omega arith
-count_fresh v (suc n) c b h =
-    let ih = count_fresh v n c b (λ m lt. h m (omega arith)) in
-    let e : v + suc n ≡ v + n + 1 = omega arith in
-    let x = ap b e ∙ h n (omega arith) in
-    count_more b (fresh_outputs v n) (v + suc n) ∙ count_next n c (b (v + suc n)) (count_of b (fresh_outputs v n)) ih x
 
 greatest_counts : (b : ℕ → Bool) (n : ℕ) (cs : List (List ℕ)) → All (λ c. length c ≡ n) cs → greatest (counts_of b cs) ≤ n
 greatest_counts b n [] s = omega arith
@@ -95,42 +68,36 @@ greatest_repeated (t ∷ times) (u ∷ us) e h =
     greatest_replicate t u (repeated times us) (All-head (λ x. 1 ≤ x) t times h)
     ∙ ap (λ n. max u n) (greatest_repeated times us (omega arith) (All-tail (λ x. 1 ≤ x) t times h))
 
-fresh_in : (v n k : ℕ) → k < length (fresh_outputs v n) → (1 ≤ slice_index (fresh_outputs v n) k) × (slice_index (fresh_outputs v n) k ≤ v + n)
-fresh_in v n k lt =
-    let l : k < n = omega (arith, length-fresh v n) in
-    let e = index_fresh v n k l in
-    (omega arith, omega arith)
-
-max_outputs : (v n : ℕ) (given : List ℕ) → HaveOutputs v given (concat (fresh_outputs v n ∷ []))
+max_outputs : (v n : ℕ) (given : List ℕ) → HaveOutputs v given (concat (fresh_vars v n ∷ []))
 max_outputs v n given =
-    subst (λ xs. HaveOutputs v given xs) (sym (append-nil (fresh_outputs v n))) (fresh_have v (v + n) given (fresh_outputs v n) (fresh_outputs_are v v (v + n) n (omega arith) (omega arith)))
+    subst (λ xs. HaveOutputs v given xs) (sym (append-nil (fresh_vars v n))) (fresh_have v (v + n) given (fresh_vars v n) (fresh_vars_are v v (v + n) n (omega arith) (omega arith)))
 
 pub max_is : (v : ℕ) (aways : List (List ℕ)) (times : List ℕ) → HaveLevels v aways times → AreLevels v aways times max_values (max_due v aways times)
 max_is v aways times h =
     let n = top_of aways in
-    let cs = joined (output_clauses v aways) n in
+    let cs = joined_blocks (output_clauses v aways) n in
     let extends : Extends Always (Are cs) v (v + n) = outputs_extend n n v aways h.within h.sized (omega arith) in
     let tells : (b : ℕ → Bool) → AllUnary b aways → Are cs b → (k : ℕ) → k < n → b (v + k + 1) ≡ nat_lt k (greatest (counts_of b aways)) =
     λ b p r k lt. output_is b n v aways h.within h.sized r k lt ∙ any_column b k n aways p h.sized lt in
-    let count : (b : ℕ → Bool) → AllUnary b aways → Are cs b → count_of b (fresh_outputs v n) ≡ greatest (counts_of b aways) =
+    let count : (b : ℕ → Bool) → AllUnary b aways → Are cs b → count_of b (fresh_vars v n) ≡ greatest (counts_of b aways) =
     λ b p r. (let most : greatest (counts_of b aways) ≤ n = greatest_counts b n aways h.sized in
-    let is : count_of b (fresh_outputs v n) ≡ min n (greatest (counts_of b aways)) = count_fresh v n (greatest (counts_of b aways)) b (tells b p r) in
+    let is : count_of b (fresh_vars v n) ≡ min n (greatest (counts_of b aways)) = count_fresh_vars v n (greatest (counts_of b aways)) b (tells b p r) in
     omega arith) in
     let o = max_outputs v n (concat aways) in
     record {
       extends = weaker (λ b. AllUnary b aways) Always (Are cs) (Are cs) v (v + n) extends (λ a b h' p. all_unary_agree v a b aways h' h.within p) extends.within (λ b p. tt) (λ b p r. r) (λ b p r. r);
       few = omega (arith, h.small);
-      within = ((λ k lt. fresh_in v n k lt), tt);
+      within = (fresh_vars_within v n (v + n) (omega arith), tt);
       in_order = λ b p r. (
         (λ k lt.
-            let l : k < n = omega (arith, length-fresh v n) in
-            ap b (index_fresh v n k l) ∙ tells b p r k l ∙ ap (λ m. nat_lt k m) (sym (count b p r))),
+            let l : k < n = omega (arith, length-fresh_vars v n) in
+            ap b (index_fresh_vars v n k l) ∙ tells b p r k l ∙ ap (λ m. nat_lt k m) (sym (count b p r))),
         tt,
       );
       values = λ b p r.
           ap (λ m. m ∷ []) (count b p r ∙ sym (greatest_repeated times (counts_of b aways) (length-map aways (count_of b) ∙ h.lengths) h.positive));
       fits = λ us same small.
-          (omega (arith, length-fresh v n, greatest_le n (repeated times us) (at_most n (repeated times us) (repeated_small n times us small))), tt);
+          (omega (arith, length-fresh_vars v n, greatest_le n (repeated times us) (at_most n (repeated times us) (repeated_small n times us small))), tt);
       origin = o.origin;
       distinct = o.distinct;
     }

@@ -12,8 +12,8 @@ use Rattle.totalizer.proofs.Sizes.{size, total_size}
 use Rattle.merge_model.specs.Merging.{repeated}
 use Rattle.merge_model.proofs.Fulls.{repeated_small}
 use Rattle.aggregators.specs.LevelValues.{sum_values}
-use Rattle.aggregators.specs.Levels.{repeats, counts_of, top_of, sum_due, HaveLevels, AreLevels}
-use Rattle.aggregators.specs.Repeats.{unary_repeats, within_repeats, sized_repeats, counts_repeats, length_repeats, some_repeats, length_repeated, repeats_alone}
+use Rattle.aggregators.specs.Levels.{counts_of, top_of, sum_due, HaveLevels, AreLevels}
+use Rattle.aggregators.specs.Repeats.{unary_repeated, within_repeated, sized_repeated, counts_repeated, length_repeated, some_repeated, repeated_alone}
 use Rattle.aggregators.specs.LevelOutputs.{total_outputs}
 
 size_at_most : (m : ℕ) (cs : List (List ℕ)) → m ≤ 4096 → All (λ c. length c ≡ m) cs → size cs ≤ 4096 * length cs
@@ -31,12 +31,12 @@ sum_of_counts b (c ∷ cs) = omega (arith, sum_of_counts b cs, sum_by-cons (λ x
 
 pub sum_room : (v : ℕ) (aways : List (List ℕ)) (times : List ℕ) → HaveLevels v aways times → (sum_due v aways times).vars ≤ v + 2 ^ 24
 sum_room v aways times h =
-    let parts = repeats times aways in
+    let parts = repeated times aways in
     omega (
       arith,
-      total_bound v parts (some_repeats v aways times h) (omega (arith, length_repeats times aways h.lengths, h.few)),
-      size_at_most (top_of aways) parts h.small (sized_repeats (top_of aways) times aways h.sized),
-      length_repeats times aways h.lengths,
+      total_bound v parts (some_repeated v aways times h) (omega (arith, length_repeated times aways h.lengths, h.few)),
+      size_at_most (top_of aways) parts h.small (sized_repeated (top_of aways) times aways h.sized),
+      length_repeated times aways h.lengths,
       h.few,
     )
 
@@ -45,35 +45,35 @@ size_is m [] h = omega arith
 size_is m (c ∷ cs) h = omega (arith, size_is m cs (All-tail (λ x. length x ≡ m) c cs h), All-head (λ x. length x ≡ m) c cs h)
 
 -- the sum of the repeated distances is at most the number of outputs
-sum_fits : (v : ℕ) (aways : List (List ℕ)) (times us : List ℕ) → HaveLevels v aways times → length us ≡ length aways → All (λ u. u ≤ top_of aways) us → sum (repeated times us) ≤ length (total_due v (repeats times aways)).outputs
+sum_fits : (v : ℕ) (aways : List (List ℕ)) (times us : List ℕ) → HaveLevels v aways times → length us ≡ length aways → All (λ u. u ≤ top_of aways) us → sum (repeated times us) ≤ length (total_due v (repeated times aways)).outputs
 sum_fits v aways times us h same small =
     let m = top_of aways in
-    let parts = repeats times aways in
+    let parts = repeated times aways in
     let full = repeated times us in
-    let as_many : length full ≡ length parts = omega (arith, length_repeated times us (same ∙ h.lengths), length_repeats times aways h.lengths) in
+    let as_many : length full ≡ length parts = omega (arith, length_repeated times us (same ∙ h.lengths), length_repeated times aways h.lengths) in
     omega (
       arith,
       sum_by-le (λ x. x) m full (repeated_small m times us small),
       ap (λ n. n * m) as_many,
-      size_is m parts (sized_repeats m times aways h.sized),
-      (total_size (length parts) v parts (some_repeats v aways times h) (omega arith)).1,
+      size_is m parts (sized_repeated m times aways h.sized),
+      (total_size (length parts) v parts (some_repeated v aways times h) (omega arith)).1,
     )
 
 pub sum_is : (v : ℕ) (aways : List (List ℕ)) (times : List ℕ) → HaveLevels v aways times → AreLevels v aways times sum_values (sum_due v aways times)
 sum_is v aways times h =
-    let parts = repeats times aways in
+    let parts = repeated times aways in
     let d = total_due v parts in
-    let some = some_repeats v aways times h in
-    let t = total_law v parts some (within_repeats v times aways h.within) in
-    let o = total_outputs v parts (concat aways) some (λ one. ap concat (repeats_alone times aways h.lengths h.positive one)) in
+    let some = some_repeated v aways times h in
+    let t = total_law v parts some (within_repeated v times aways h.within) in
+    let o = total_outputs v parts (concat aways) some (λ one. ap concat (repeated_alone times aways h.lengths h.positive one)) in
     record {
       extends = weaker (λ b. AllUnary b aways) (λ b. AllUnary b parts) (Are d.clauses) (Are d.clauses) v d.vars t.extends (λ a b h' p. all_unary_agree v a b aways h' h.within p) t.extends.within
-          (λ b p. unary_repeats b times aways p) (λ b p r. r) (λ b p r. r);
+          (λ b p. unary_repeated b times aways p) (λ b p r. r) (λ b p r. r);
       few = sum_room v aways times h;
       within = (t.within, tt);
-      in_order = λ b p r. (t.in_order b (unary_repeats b times aways p) r, tt);
+      in_order = λ b p r. (t.in_order b (unary_repeated b times aways p) r, tt);
       values = λ b p r.
-          ap (λ n. n ∷ []) (t.value b (unary_repeats b times aways p) r ∙ sum_of_counts b parts ∙ ap sum (counts_repeats b times aways));
+          ap (λ n. n ∷ []) (t.value b (unary_repeated b times aways p) r ∙ sum_of_counts b parts ∙ ap sum (counts_repeated b times aways));
       fits = λ us same small. (sum_fits v aways times us h same small, tt);
       origin = o.origin;
       distinct = o.distinct;

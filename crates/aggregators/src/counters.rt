@@ -1,5 +1,6 @@
 ghost use Rattle.std.specs.Prelude.{◌≡◌, ◌<◌, ◌++◌, length, replicate, slice_index, All, IfOk, OnOk};
-ghost use Rattle.aggregators.specs.Levels.{column, repeats};
+ghost use Rattle.merge_model.specs.Merging.{repeated};
+ghost use Rattle.aggregators.specs.Levels.{column};
 
 use edge::NoMemory;
 use std::alloc::Global;
@@ -12,7 +13,7 @@ pub fn repeated_counters(
     times: &[u32],
 ) -> Result<Vec<Unary>, NoMemory>
     requires { length counters.now ≡ length times.now }
-    ensures { IfOk result (λ parts. parts.items ≡ repeats times.now counters.now) }
+    ensures { IfOk result (λ parts. parts.items ≡ repeated times.now counters.now) }
 {
     let mut parts = Vec::new(alloc);
     for (i, counter) in counters.iter().enumerate() {

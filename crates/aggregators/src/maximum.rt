@@ -1,12 +1,10 @@
 ghost use Rattle.std.specs.Prelude.{◌≡◌, ◌+◌, ◌<◌, ◌≤◌, ◌^◌, ◌++◌, length, map, All, IfOk, OnOk, OnErr};
 ghost use Rattle.clause_store.specs.Grew.{Grew};
 ghost use Rattle.clause_store.specs.Lits.{sorted_clause};
-ghost use Rattle.totalizer.specs.Counter.{AllVarsWithin};
+ghost use Rattle.totalizer.specs.Counter.{fresh_vars, AllVarsWithin};
 ghost use Rattle.totalizer.specs.Either.{either_due};
-ghost use Rattle.totalizer.specs.Joined.{joined};
-ghost use Rattle.totalizer.specs.Plus.{fresh_outputs};
-ghost use Rattle.aggregators.specs.Levels.{column};
-ghost use Rattle.aggregators.specs.MaxLevel.{output_clauses};
+ghost use Rattle.totalizer.specs.Joined.{joined_blocks};
+ghost use Rattle.aggregators.specs.Levels.{column, output_clauses};
 
 use crate::Levelled;
 use crate::counters::outputs_at;
@@ -68,8 +66,8 @@ fn add_output(
     ensures err { OnErr result (Grew clauses.old clauses.new (either_due clauses.old.vars (column k aways.now)).clauses) }
 {
     let vars = outputs_at(alloc, aways, k)?;
-    let _some = either(alloc, clauses, &vars)?;
-    Ok(clauses.vars())
+    let some = either(alloc, clauses, &vars)?;
+    Ok(some.at_least(1).var)
 }
 
 /// All `top` outputs of the level.
@@ -83,10 +81,10 @@ fn add_outputs(
     requires sized { All (λ away. length away ≡ top) aways.now }
     requires within { AllVarsWithin clauses.old.vars aways.now }
     requires room { clauses.old.vars + top ≤ 2 ^ 31 }
-    ensures outputs { IfOk result (λ outputs. outputs.items ≡ fresh_outputs clauses.old.vars top) }
+    ensures outputs { IfOk result (λ outputs. outputs.items ≡ fresh_vars clauses.old.vars top) }
     ensures vars { OnOk result (clauses.new.vars ≡ clauses.old.vars + top) }
-    ensures list { OnOk result (clauses.new.list ≡ clauses.old.list ++ map sorted_clause (joined (output_clauses clauses.old.vars aways.now) top)) }
-    ensures err { OnErr result (Grew clauses.old clauses.new (joined (output_clauses clauses.old.vars aways.now) top)) }
+    ensures list { OnOk result (clauses.new.list ≡ clauses.old.list ++ map sorted_clause (joined_blocks (output_clauses clauses.old.vars aways.now) top)) }
+    ensures err { OnErr result (Grew clauses.old clauses.new (joined_blocks (output_clauses clauses.old.vars aways.now) top)) }
 {
     let mut outputs = Vec::new(alloc);
     for k in 0..top {

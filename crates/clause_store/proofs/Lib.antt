@@ -1,5 +1,7 @@
 pub mod Each
 pub mod Lits
+pub mod Searches
+pub mod Sorts
 pub mod Merges
 pub mod Cuts
 pub mod Numbered

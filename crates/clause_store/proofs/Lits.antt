@@ -1,10 +1,7 @@
 -- Lemmas on literals.
-use Rattle.std.proofs.Common.{◌≡◌, ◌≢◌, ℕ, ◌<◌, Bool, true, false, List, [], ◌∷◌, ◌++◌, refl, ap, sym, ◌∙◌, rules, arith, cond, inl, inr, append_assoc, length, get_or, take, drop, suc, subst}
+use Rattle.std.proofs.Common.{◌≡◌, ◌≢◌, ℕ, ◌<◌, Bool, true, false, List, [], ◌∷◌, ◌++◌, refl, ap, sym, ◌∙◌, rules, arith, cond, inl, inr, append_assoc}
 use Rattle.std.proofs.lemmas.Bool.{cases_lt, cases_eq}
-use Rattle.std.specs.Prelude.{nat_lt, insert}
-use Rattle.std.proofs.Math.Seq.{take-suc}
-use Rattle.std.proofs.Common.{drop-cons}
-use Rattle.std.proofs.lemmas.List.{take-append-drop}
+use Rattle.std.specs.Prelude.{nat_lt}
 use Rattle.clause_store.specs.declared.lit.Lit.{Lit}
 use Rattle.clause_store.specs.Lits.{rank_of, negated, IsBelow, Ascends, IsWithin, InRange, same_lit, without, with_lit, joined, resolvent, sorted_onto, sorted_clause}
 
@@ -96,77 +93,6 @@ take_left made p q x y xs ys s t h n =
     let b : IsBelow x (y ∷ ys) = (h, IsBelow-trans x y ys h t.0) in
     append_assoc made (x ∷ []) (joined (without p xs) (without q (y ∷ ys)))
     ∙ ap (λ (zs : List Lit). made ++ zs) (sym (ap (λ (v : Bool). joined (cond v (without p xs) (x ∷ without p xs)) (without q (y ∷ ys))) e ∙ joined_left x (without p xs) (without q (y ∷ ys)) (IsBelow-without x p xs s.0) (IsBelow-without x q (y ∷ ys) b)))
-
--- a literal that comes before one of the list comes before what follows that one
-with_lit-before : (l m : Lit) (xs ys : List Lit) → rank_of l < rank_of m → with_lit l (xs ++ m ∷ ys) ≡ with_lit l xs ++ m ∷ ys
-with_lit-before l m [] ys h = grind arith
-with_lit-before l m (x ∷ xs) ys h =
-    elim (nat_lt (rank_of l) (rank_of x)) as (λ t. cond t (l ∷ x ∷ (xs ++ m ∷ ys)) (cond (same_lit l x) (x ∷ (xs ++ m ∷ ys)) (x ∷ with_lit l (xs ++ m ∷ ys))) ≡ cond t (l ∷ x ∷ xs) (cond (same_lit l x) (x ∷ xs) (x ∷ with_lit l xs)) ++ m ∷ ys) [
-      | true ↦ refl
-      | false ↦ elim (same_lit l x) as (λ t. cond t (x ∷ (xs ++ m ∷ ys)) (x ∷ with_lit l (xs ++ m ∷ ys)) ≡ cond t (x ∷ xs) (x ∷ with_lit l xs) ++ m ∷ ys) [
-        | true ↦ refl
-        | false ↦ ap (λ (zs : List Lit). x ∷ zs) (with_lit-before l m xs ys h)
-      ]
-    ]
-
--- a list in order is below its last literal
-below_last : (y x : Lit) (ys : List Lit) → IsBelow y (ys ++ x ∷ []) → rank_of y < rank_of x
-below_last y x [] b = b.0
-below_last y x (z ∷ zs) b = below_last y x zs b.1
-
-with_lit-after : (l x : Lit) (xs : List Lit) → Ascends (xs ++ x ∷ []) → rank_of x < rank_of l → with_lit l (xs ++ x ∷ []) ≡ (xs ++ x ∷ []) ++ l ∷ []
-with_lit-after l x [] s h = with_lit-above l x [] h
-with_lit-after l x (y ∷ ys) s h =
-    let b : rank_of y < rank_of x = below_last y x ys s.0 in
-    with_lit-above l y (ys ++ x ∷ []) (omega arith) ∙ ap (λ (zs : List Lit). y ∷ zs) (with_lit-after l x ys s.1 h)
-
-with_lit-last : (l x : Lit) (xs : List Lit) → Ascends (xs ++ x ∷ []) → rank_of x ≡ rank_of l → with_lit l (xs ++ x ∷ []) ≡ xs ++ x ∷ []
-with_lit-last l x [] s h = with_lit-same l x [] h
-with_lit-last l x (y ∷ ys) s h =
-    let b : rank_of y < rank_of x = below_last y x ys s.0 in
-    with_lit-above l y (ys ++ x ∷ []) (omega arith) ∙ ap (λ (zs : List Lit). y ∷ zs) (with_lit-last l x ys s.1 h)
-
-below_front : (x : Lit) (xs ys : List Lit) → IsBelow x (xs ++ ys) → IsBelow x xs
-below_front x [] ys b = tt
-below_front x (z ∷ zs) ys b = (b.0, below_front x zs ys b.1)
-
-pub Ascends-front : (xs ys : List Lit) → Ascends (xs ++ ys) → Ascends xs
-Ascends-front [] ys s = tt
-Ascends-front (x ∷ xs) ys s = (below_front x xs ys s.0, Ascends-front xs ys s.1)
-
--- the list in front of a place, with the last literal of it
-front_is : (items : List Lit) (k : ℕ) (d : Lit) → k < length items → Ascends items → Ascends (take k items ++ get_or items k d ∷ [])
-front_is items k d lt s =
-    let t : Ascends (take (suc k) items) = Ascends-front (take (suc k) items) (drop (suc k) items) (subst Ascends (sym (take-append-drop (suc k) items)) s) in
-    subst Ascends (take-suc items k d lt) t
-
--- the place of a literal is in front of one that it comes before
-pub put_step : (items : List Lit) (l d : Lit) (k : ℕ) → k < length items → rank_of l < rank_of (get_or items k d) →
-    with_lit l (take (suc k) items) ++ drop (suc k) items ≡ with_lit l items → with_lit l (take k items) ++ drop k items ≡ with_lit l items
-put_step items l d k lt h g =
-    let x = get_or items k d in
-    let a : with_lit l (take (suc k) items) ≡ with_lit l (take k items) ++ x ∷ [] = ap (with_lit l) (take-suc items k d lt) ∙ with_lit-before l x (take k items) [] h in
-    let b : drop k items ≡ x ∷ drop (suc k) items = drop-cons items k d lt in
-    ap (λ (zs : List Lit). with_lit l (take k items) ++ zs) b ∙ sym (append_assoc (with_lit l (take k items)) (x ∷ []) (drop (suc k) items)) ∙ ap (λ (zs : List Lit). zs ++ drop (suc k) items) (sym a) ∙ g
-
--- a new literal, after the literals that come before it
-pub put_first : (items : List Lit) (l : Lit) → with_lit l (take 0 items) ++ drop 0 items ≡ with_lit l items → insert items 0 l ≡ with_lit l items
-put_first items l g = g
-
-pub put_after : (items : List Lit) (l d : Lit) (k : ℕ) → k < length items → Ascends items → rank_of (get_or items k d) < rank_of l →
-    with_lit l (take (suc k) items) ++ drop (suc k) items ≡ with_lit l items → insert items (suc k) l ≡ with_lit l items
-put_after items l d k lt s h g =
-    let x = get_or items k d in
-    let a : with_lit l (take (suc k) items) ≡ take (suc k) items ++ l ∷ [] = ap (with_lit l) (take-suc items k d lt) ∙ with_lit-after l x (take k items) (front_is items k d lt s) h ∙ ap (λ (zs : List Lit). zs ++ l ∷ []) (sym (take-suc items k d lt)) in
-    sym (append_assoc (take (suc k) items) (l ∷ []) (drop (suc k) items)) ∙ ap (λ (zs : List Lit). zs ++ drop (suc k) items) (sym a) ∙ g
-
--- a literal that is there
-pub put_there : (items : List Lit) (l d : Lit) (k : ℕ) → k < length items → Ascends items → rank_of (get_or items k d) ≡ rank_of l →
-    with_lit l (take (suc k) items) ++ drop (suc k) items ≡ with_lit l items → items ≡ with_lit l items
-put_there items l d k lt s h g =
-    let x = get_or items k d in
-    let a : with_lit l (take (suc k) items) ≡ take (suc k) items = ap (with_lit l) (take-suc items k d lt) ∙ with_lit-last l x (take k items) (front_is items k d lt s) h ∙ sym (take-suc items k d lt) in
-    sym (take-append-drop (suc k) items) ∙ ap (λ (zs : List Lit). zs ++ drop (suc k) items) (sym a) ∙ g
 
 InRange-with_lit : (v : ℕ) (l : Lit) (ms : List Lit) → IsWithin v l → InRange v ms → InRange v (with_lit l ms)
 InRange-with_lit v l [] w h = (w, tt)

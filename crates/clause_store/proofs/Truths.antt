@@ -37,11 +37,11 @@ pub or_assoc : (x y z : Bool) → (x || (y || z)) ≡ ((x || y) || z)
 or_assoc true y z = refl
 or_assoc false y z = refl
 
-or_none : (x : Bool) → (x || false) ≡ x
+pub or_none : (x : Bool) → (x || false) ≡ x
 or_none true = refl
 or_none false = refl
 
-or_swap : (x y z : Bool) → (y || (x || z)) ≡ (x || (y || z))
+pub or_swap : (x y z : Bool) → (y || (x || z)) ≡ (x || (y || z))
 or_swap true true z = refl
 or_swap true false z = refl
 or_swap false true z = refl
@@ -53,9 +53,6 @@ or_same true false z h = cc
 or_same false y z h = refl
 
 -- assignments that agree
-
-pub agree_sym : (v : ℕ) (a b : ℕ → Bool) → Agree v a b → Agree v b a
-agree_sym v a b h = λ k lo hi. sym (h k lo hi)
 
 pub agree_then : (v w : ℕ) (a b c : ℕ → Bool) → v ≤ w → Agree v a b → Agree w b c → Agree v a c
 agree_then v w a b c le h k = λ i lo hi. h i lo hi ∙ k i lo (omega arith)

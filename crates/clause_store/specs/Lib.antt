@@ -1,4 +1,5 @@
 pub mod Lits
+pub mod LitOrder
 pub mod Clauses
 pub mod Truth
 pub mod Extends

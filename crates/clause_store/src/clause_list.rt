@@ -46,6 +46,7 @@ impl ClauseList {
     /// The number of clauses.
     pub fn len(&self) -> u64
         ensures len { result ≡ length self.now.list }
+        ensures small { result < 2 ^ 63 }
         ensures whole { IsWhole self.now }
     {
         self.ends.len() as u64
@@ -87,6 +88,7 @@ impl ClauseList {
     pub fn add(&mut self, lits: &[Lit]) -> Result<u64, NoMemory>
         requires in_range { InRange self.old.vars lits.now }
         ensures number { IfOk result (λ k. k ≡ length self.old.list) }
+        ensures small { IfOk result (λ k. k < 2 ^ 63) }
         ensures ok { OnOk result (self.new ≡ record self.old { list = self.old.list ++ sorted_clause lits.now ∷ [] }) }
         ensures err { OnErr result (self.new ≡ self.old) }
     {
@@ -99,6 +101,7 @@ impl ClauseList {
     pub fn add_clause(&mut self, clause: &Clause) -> Result<u64, NoMemory>
         requires in_range { InRange self.old.vars clause.now }
         ensures number { IfOk result (λ k. k ≡ length self.old.list) }
+        ensures small { IfOk result (λ k. k < 2 ^ 63) }
         ensures ok { OnOk result (self.new ≡ record self.old { list = self.old.list ++ clause.now ∷ [] }) }
         ensures err { OnErr result (self.new ≡ self.old) }
     {
@@ -111,6 +114,7 @@ impl ClauseList {
         requires ascends { Ascends lits.now }
         requires in_range { InRange self.old.vars lits.now }
         ensures number { IfOk result (λ k. k ≡ length self.old.list) }
+        ensures small { IfOk result (λ k. k < 2 ^ 63) }
         ensures ok { OnOk result (self.new ≡ record self.old { list = self.old.list ++ lits.now ∷ [] }) }
         ensures err { OnErr result (self.new ≡ self.old) }
     {

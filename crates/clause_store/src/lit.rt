@@ -3,7 +3,9 @@ ghost use Rattle.std.specs.Prelude.{◌≡◌, ℕ, ◌+◌, ◌*◌, ◌<◌, �
 ghost use Rattle.std.proofs.Common.{rules};
 ghost use Rattle.std.specs.Cmp.{partial_order_from_own_ties};
 ghost use Rattle.std.specs.Cmp.Rules.{comparing};
-ghost use Rattle.std.specs.Ordering.{nat_cmp, bool_cmp, on, flip_args, then_cmp, as_partial_cmp};
+ghost use Rattle.std.specs.Ordering.{nat_cmp, on, as_partial_cmp};
+ghost use Rattle.clause_store.specs.Lits.{rank_of};
+ghost use Rattle.clause_store.specs.LitOrder.{rank_ties};
 
 use std::cmp::Ordering;
 
@@ -16,27 +18,25 @@ pub struct Lit {
     pub positive: bool,
 }
 
-// By variable, and of one variable the positive literal first.
+// By rank.
 impl Ord for Lit {
-    ghost cmp = { then_cmp (on (λ l. l.var) nat_cmp) (flip_args (on (λ l. l.positive) bool_cmp)) };
+    ghost cmp = { on rank_of nat_cmp };
 
     ghost total = { Prim.search (comparing, rules) };
 
     ghost matches_partial_cmp = { Prim.search (comparing, rules) };
 
-    ghost matches_eq = { Prim.search (comparing, rules) };
+    ghost matches_eq = { rank_ties };
 
     fn cmp(&self, other: &Lit) -> Ordering {
-        self.var
-            .cmp(&other.var)
-            .then(other.positive.cmp(&self.positive))
+        self.rank().cmp(&other.rank())
     }
 }
 
 impl PartialOrd for Lit {
-    ghost partial_cmp = { as_partial_cmp (then_cmp (on (λ l. l.var) nat_cmp) (flip_args (on (λ l. l.positive) bool_cmp))) };
+    ghost partial_cmp = { as_partial_cmp (on rank_of nat_cmp) };
 
-    ghost laws = { partial_order_from_own_ties (Prim.search (comparing, rules)) (Prim.search (comparing, rules)) };
+    ghost laws = { partial_order_from_own_ties (Prim.search (comparing, rules)) rank_ties };
 
     fn partial_cmp(&self, other: &Lit) -> Option<Ordering> {
         Some(self.cmp(other))
@@ -44,7 +44,7 @@ impl PartialOrd for Lit {
 }
 
 impl Lit {
-    ghost use Rattle.clause_store.specs.Lits.{negated, rank_of};
+    ghost use Rattle.clause_store.specs.Lits.{negated};
 
     /// A number that orders the literals: by variable, positive first.
     #[inline]

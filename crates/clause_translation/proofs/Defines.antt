@@ -5,7 +5,7 @@ use Rattle.clause_store.specs.declared.lit.Lit.{Lit}
 use Rattle.clause_store.specs.Lits.{positive_lit, negated, IsWithin, InRange, AreInRange}
 use Rattle.clause_store.specs.Truth.{Agree, Satisfies, lit_true}
 use Rattle.clause_store.specs.Extends.{Extends, Are, Always}
-use Rattle.clause_store.proofs.Truths.{and_left, and_right, all_true-append, lit_agree, within_more}
+use Rattle.clause_store.proofs.Truths.{and_left, and_right, all_true-append, lit_agree, lit_true-negated, within_more}
 use Rattle.clause_store.proofs.Blocks.{single, next_are}
 use Rattle.formulas.specs.declared.formula.Formula as formula
 use Rattle.formulas.specs.declared.formula.Formula.{Formula}
@@ -192,18 +192,10 @@ truth_at-map g [] k lt = absurd (omega arith)
 truth_at-map g (x ∷ xs) zero lt = refl
 truth_at-map g (x ∷ xs) (suc k) lt = truth_at-map g xs k (omega arith)
 
-lit_at : (v : ℕ) (atoms : List Lit) (k : ℕ) → InRange v atoms → k < length atoms → IsWithin v (atom_lit atoms k)
+pub lit_at : (v : ℕ) (atoms : List Lit) (k : ℕ) → InRange v atoms → k < length atoms → IsWithin v (atom_lit atoms k)
 lit_at v [] k h lt = absurd (omega arith)
 lit_at v (l ∷ ls) zero h lt = h.0
 lit_at v (l ∷ ls) (suc k) h lt = lit_at v ls k h.1 (omega arith)
-
-turned : (p x : Bool) → (if not p then x else not x) ≡ not (if p then x else not x)
-turned true x = refl
-turned false true = refl
-turned false false = refl
-
-negated_true : (b : ℕ → Bool) (l : Lit) → lit_true b (negated l) ≡ not (lit_true b l)
-negated_true b l = turned l.positive (b l.var)
 
 defines_atom : (k : ℕ) → IsDefined (formula.Atom k)
 defines_atom k = λ v atoms in_range wide.
@@ -213,8 +205,8 @@ defines_atom k = λ v atoms in_range wide.
     let up : IsWithin (v + 1) x = (is.0, let y = is.1 in omega arith) in
     defines_leaf (formula.Atom k) (λ n. atom_clauses n x) v atoms (λ b. lit_true b x) (ap (λ (h : ℕ → Definition). h v) (fold_atom (definition_step atoms) k)) (λ a b h. lit_agree v a b x h is)
     (((omega arith, omega arith), (up, tt)), (((omega arith, omega arith), (up, tt)), tt))
-    (λ b r. atom_to (b (v + 1)) (lit_true b x) (ap (λ z. ((not (b (v + 1)) || (lit_true b x || false)) && ((b (v + 1) || (z || false)) && true))) (sym (negated_true b x)) ∙ r))
-    (λ b r. ap (λ z. ((not (b (v + 1)) || (lit_true b x || false)) && ((b (v + 1) || (z || false)) && true))) (negated_true b x) ∙ atom_from (b (v + 1)) (lit_true b x) r)
+    (λ b r. atom_to (b (v + 1)) (lit_true b x) (ap (λ z. ((not (b (v + 1)) || (lit_true b x || false)) && ((b (v + 1) || (z || false)) && true))) (sym (lit_true-negated b x)) ∙ r))
+    (λ b r. ap (λ z. ((not (b (v + 1)) || (lit_true b x || false)) && ((b (v + 1) || (z || false)) && true))) (lit_true-negated b x) ∙ atom_from (b (v + 1)) (lit_true b x) r)
     (λ b. sym (truth_at-map (lit_true b) atoms k lt) ∙ sym (holds_atom (map (lit_true b) atoms) k))
 
 -- the clauses define the formula

@@ -35,7 +35,7 @@ pub fn bottom_node(clauses: &mut ClauseList) -> Result<Lit, NoMemory>
 }
 
 /// A node with the value of a literal.
-#[tactic(auto, using(clause_store::proofs::Grows::grew_none))]
+#[tactic(auto, using(clause_store::proofs::Grows::grew_none, clause_store::proofs::Grows::grew_one))]
 pub fn atom_node(clauses: &mut ClauseList, atom: Lit) -> Result<Lit, NoMemory>
     requires room { clauses.old.vars < 2 ^ 31 }
     requires atom { IsWithin clauses.old.vars atom }
@@ -51,7 +51,7 @@ pub fn atom_node(clauses: &mut ClauseList, atom: Lit) -> Result<Lit, NoMemory>
 }
 
 /// A negation.
-#[tactic(auto, using(clause_store::proofs::Grows::grew_none))]
+#[tactic(auto, using(clause_store::proofs::Grows::grew_none, clause_store::proofs::Grows::grew_one))]
 pub fn not_node(clauses: &mut ClauseList, part: Lit) -> Result<Lit, NoMemory>
     requires room { clauses.old.vars < 2 ^ 31 }
     requires part { IsWithin clauses.old.vars part }
@@ -67,7 +67,7 @@ pub fn not_node(clauses: &mut ClauseList, part: Lit) -> Result<Lit, NoMemory>
 }
 
 /// A conjunction.
-#[tactic(auto, using(clause_store::proofs::Grows::grew_none, clause_store::proofs::Grows::grew_one))]
+#[tactic(auto, using(clause_store::proofs::Grows::grew_none, clause_store::proofs::Grows::grew_one, clause_store::proofs::Grows::grew_two))]
 pub fn and_node(clauses: &mut ClauseList, left: Lit, right: Lit) -> Result<Lit, NoMemory>
     requires room { clauses.old.vars < 2 ^ 31 }
     requires left { IsWithin clauses.old.vars left }
@@ -85,7 +85,7 @@ pub fn and_node(clauses: &mut ClauseList, left: Lit, right: Lit) -> Result<Lit, 
 }
 
 /// A disjunction.
-#[tactic(auto, using(clause_store::proofs::Grows::grew_none, clause_store::proofs::Grows::grew_one))]
+#[tactic(auto, using(clause_store::proofs::Grows::grew_none, clause_store::proofs::Grows::grew_one, clause_store::proofs::Grows::grew_two))]
 pub fn or_node(clauses: &mut ClauseList, left: Lit, right: Lit) -> Result<Lit, NoMemory>
     requires room { clauses.old.vars < 2 ^ 31 }
     requires left { IsWithin clauses.old.vars left }
@@ -103,7 +103,7 @@ pub fn or_node(clauses: &mut ClauseList, left: Lit, right: Lit) -> Result<Lit, N
 }
 
 /// An implication.
-#[tactic(auto, using(clause_store::proofs::Grows::grew_none, clause_store::proofs::Grows::grew_one))]
+#[tactic(auto, using(clause_store::proofs::Grows::grew_none, clause_store::proofs::Grows::grew_one, clause_store::proofs::Grows::grew_two))]
 pub fn implies_node(clauses: &mut ClauseList, left: Lit, right: Lit) -> Result<Lit, NoMemory>
     requires room { clauses.old.vars < 2 ^ 31 }
     requires left { IsWithin clauses.old.vars left }
@@ -121,7 +121,7 @@ pub fn implies_node(clauses: &mut ClauseList, left: Lit, right: Lit) -> Result<L
 }
 
 /// An equivalence.
-#[tactic(auto, using(clause_store::proofs::Grows::grew_none, clause_store::proofs::Grows::grew_one, clause_store::proofs::Grows::grew_two))]
+#[tactic(auto, using(clause_store::proofs::Grows::grew_none, clause_store::proofs::Grows::grew_one, clause_store::proofs::Grows::grew_two, clause_store::proofs::Grows::grew_three))]
 pub fn iff_node(clauses: &mut ClauseList, left: Lit, right: Lit) -> Result<Lit, NoMemory>
     requires room { clauses.old.vars < 2 ^ 31 }
     requires left { IsWithin clauses.old.vars left }

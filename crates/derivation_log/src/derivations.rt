@@ -71,6 +71,7 @@ impl Derivations {
     pub fn append(&mut self, step: Step) -> Result<u64, NoMemory>
         requires { InRange self.old.vars step.clause }
         ensures number { IfOk result (λ k. k ≡ length (known_of self.old)) }
+        ensures small { IfOk result (λ k. k < 2 ^ 63) }
         ensures ok { OnOk result (self.new ≡ record self.old { steps = self.old.steps ++ step ∷ [] }) }
         ensures err { OnErr result (self.new ≡ self.old) }
     {
@@ -93,13 +94,12 @@ impl Derivations {
         self.rows[(number - self.main) as usize].kind
     }
 
-    /// The step of a number, copied; `NoMemory` for want of memory. Where the steps follow, and there are no more
-    /// clauses than a list can hold, `write_step` takes it.
+    /// The step of a number, copied; `NoMemory` for want of memory. Where the steps follow, `write_step` takes it.
     pub fn step(&self, alloc: Global, number: u64) -> Result<Step, NoMemory>
         requires main { length self.now.main ≤ number }
         requires known { number < length (known_of self.now) }
         ensures step { IfOk result (λ step. slice_get self.now.steps (number - length self.now.main) ≡ Some step) }
-        ensures line { IsSound self.now.main self.now.steps → length (known_of self.now) < 2 ^ 63 → IfOk result (HasLine number) }
+        ensures line { IsSound self.now.main self.now.steps → IfOk result (HasLine number) }
     {
         let _ = (self.known.len(), self.known.vars());
         let clause = Clause::from_sorted(alloc, self.known.clause(number))?;

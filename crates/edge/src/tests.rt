@@ -2,8 +2,56 @@ use crate::{
     MemorySink, MemorySource, NullSink, PlainSource, ReadStop, Sink, Source, StdSink, StdSource,
     Words, read_all, send_all,
 };
-use std::io::Cursor;
+use std::io::{self, Cursor, ErrorKind, Read, Write};
 use std::test::Fail;
+
+/// Gives one byte a read and fails once, after so many bytes.
+#[derive(Drop)]
+struct FailsOnce {
+    left: u32,
+    fails_after: Option<u32>,
+}
+
+impl Read for FailsOnce {
+    fn read(&mut self, into: &mut [u8]) -> io::Result<usize> {
+        if self.fails_after == Some(0) {
+            self.fails_after = None;
+            return Err(ErrorKind::Other.into());
+        }
+        self.fails_after = self.fails_after.map(|count| count.saturating_sub(1));
+        if self.left == 0 || into.is_empty() {
+            return Ok(0);
+        }
+        self.left -= 1;
+        into[0] = b'a';
+        Ok(1)
+    }
+}
+
+/// Takes at most so many bytes a write, or fails at each; counts its flushes, of which one fails.
+#[derive(Drop)]
+struct Flushed {
+    takes: Option<usize>,
+    flushes: u32,
+    failing_flush: u32,
+}
+
+impl Write for Flushed {
+    fn write(&mut self, piece: &[u8]) -> io::Result<usize> {
+        match self.takes {
+            None => Err(ErrorKind::Other.into()),
+            Some(most) => Ok(piece.len().min(most)),
+        }
+    }
+
+    fn flush(&mut self) -> io::Result<()> {
+        self.flushes = self.flushes.saturating_add(1);
+        if self.flushes == self.failing_flush {
+            return Err(ErrorKind::Other.into());
+        }
+        Ok(())
+    }
+}
 
 #[test]
 fn reads_to_the_end_the_limit_or_the_fault(rt: HostRuntime) -> Result<(), Fail> {
@@ -55,6 +103,48 @@ fn streams_pass_on_what_the_system_gives(rt: HostRuntime) -> Result<(), Fail> {
     assert_eq!(rt; sink.write(b""), Ok(0));
     assert_eq!(rt; send_all(&mut sink, b"agent"), Ok(()));
     assert_eq!(rt; text.as_slice(), b"agent".as_slice());
+    Ok(())
+}
+
+#[test]
+fn a_stream_is_flushed_after_each_write(rt: HostRuntime) {
+    let rows = [
+        // what a write takes, the flush that fails, what sending answers, and how many flushes come
+        (Some(3), 0, Ok(()), 2),
+        (Some(3), 1, Err(0), 1),
+        (Some(3), 2, Err(3), 2),
+        (Some(0), 0, Err(0), 0),
+        (None, 0, Err(0), 0),
+    ];
+    for (takes, failing_flush, want, flushes) in rows {
+        let mut output = Flushed {
+            takes,
+            flushes: 0,
+            failing_flush,
+        };
+        let mut sink = StdSink::new(&mut output);
+        assert_eq!(rt; sink.write(b""), Ok(0));
+        assert_eq!(rt; send_all(&mut sink, b"agent"), want, "takes {takes:?}");
+        assert_eq!(rt;
+            output.flushes,
+            flushes,
+            "takes {takes:?}, flush {failing_flush} fails"
+        );
+    }
+}
+
+#[test]
+fn a_reader_that_fails_midway_stops_reading(rt: HostRuntime) -> Result<(), Fail> {
+    let mut source = StdSource::new(FailsOnce {
+        left: 5,
+        fails_after: Some(2),
+    });
+    let got = read_all(rt.alloc(), &mut source, None);
+    assert_eq!(rt; got.map(|bytes| bytes.len()), Err(ReadStop::Failed));
+    // The failed read gave nothing, and three bytes are left.
+    let rest = read_all(rt.alloc(), &mut source, None);
+    assert_eq!(rt; rest.map(|bytes| bytes.len()), Ok(3));
+    assert_eq!(rt; source.read(&mut [0u8; 1]), Ok(0));
     Ok(())
 }
 

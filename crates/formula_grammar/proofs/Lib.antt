@@ -1,3 +1,4 @@
+pub mod Choice
 pub mod Complete
 pub mod Depths
 pub mod Measures

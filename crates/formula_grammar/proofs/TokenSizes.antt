@@ -2,8 +2,9 @@
 use Rattle.std.proofs.Common.{ℕ, ◌+◌, ◌≤◌, Bool, true, false, ◌==◌, ◌&&◌, List, [], ◌∷◌, length, drop, nat_eq, if◌then◌else◌, arith}
 use Rattle.std.specs.List.{starts_with}
 use Rattle.std.proofs.lemmas.List.{length-drop}
-use Rattle.line_tokens.specs.Bytes.{is_word_byte, is_blank, starts_word}
-use Rattle.line_tokens.specs.Lexemes.{Lexeme, bang, ampersand, bar, arrow, both_arrow, open_bracket, close_bracket, colon, stray, word, lexemes_of, with_word_byte, with_byte, mark_of}
+use Rattle.formulas.specs.Names.{is_word_byte}
+use Rattle.line_tokens.specs.Bytes.{is_blank, starts_word}
+use Rattle.line_tokens.specs.Lexemes.{Lexeme, bang, ampersand, bar, arrow, both_arrow, open_bracket, close_bracket, colon, stray, word, lexemes_of, with_word_byte, tokens_with_byte, mark_of}
 
 size_with_word_byte : (b : ℕ) (w : Bool) (ts : List Lexeme) → length (with_word_byte b w ts) ≤ length ts + 1
 size_with_word_byte b true (word w ∷ ts) = omega arith
@@ -30,7 +31,7 @@ size_on false false true d v w x y z ts h i j k l = j
 size_on false false false true v w x y z ts h i j k l = k
 size_on false false false false v w x y z ts h i j k l = l
 
-size_with_byte : (b : ℕ) (s : List ℕ) (ts : List Lexeme) → length (with_byte b s ts) ≤ length ts + 1
+size_with_byte : (b : ℕ) (s : List ℕ) (ts : List Lexeme) → length (tokens_with_byte b s ts) ≤ length ts + 1
 size_with_byte b s ts =
     size_on (is_word_byte b) (is_blank b) (b == 45 && starts_with nat_eq s (62 ∷ [])) (b == 60 && starts_with nat_eq s (45 ∷ 62 ∷ []))
     (with_word_byte b (starts_word s) ts) ts (arrow ∷ drop 1 ts) (both_arrow ∷ drop 1 ts) (mark_of b ∷ ts) ts

@@ -3,9 +3,9 @@ use Rattle.std.proofs.Common.{◌≡◌, ◌≢◌, ℕ, ◌+◌, ◌<◌, Bool,
 use Rattle.std.specs.List.{list_all, list_any, position_or_len}
 use Rattle.std.specs.Str.{bytes_eq}
 use Rattle.std.proofs.lemmas.Slice.Eq.{bytes_eq-Decides}
-use Rattle.formulas.specs.Names.{is_name, is_plain_name, is_reserved, are_names, are_distinct}
+use Rattle.formulas.specs.Names.{is_word_byte, is_name, is_plain_name, is_reserved, are_names, are_distinct}
 use Rattle.formula_text.specs.CanonicalText.{name_of}
-use Rattle.line_tokens.specs.Bytes.{is_word_byte, is_bad, starts_word}
+use Rattle.line_tokens.specs.Bytes.{is_bad, starts_word}
 use Rattle.line_tokens.specs.Lexemes.{word, lexemes_of, with_word_byte}
 use Rattle.line_tokens.proofs.Words.{if_true, word_not_bad}
 

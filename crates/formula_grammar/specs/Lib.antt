@@ -1,4 +1,5 @@
 pub mod Grammar
+pub mod Limits
 pub mod Machine
 pub mod Makers
 pub mod Readings

@@ -6,6 +6,9 @@ use edge::NoMemory;
 use formulas::Formula;
 use std::alloc::Global;
 
+/// The greatest depth of a formula that is read.
+pub const DEPTH_LIMIT: u8 = 128;
+
 /// Makes the formula.
 #[derive(Drop)]
 pub struct Formulas {
@@ -33,7 +36,7 @@ impl Maker<Formula> for Formulas {
     }
 }
 
-/// Makes the formula's depth, counted up to 129, and so never a formula that is too deep to drop.
+/// Makes the formula's depth, counted up to one past the limit, and so never a formula that is too deep to drop.
 #[derive(Drop)]
 pub struct Depths;
 
@@ -45,11 +48,11 @@ impl Maker<u8> for Depths {
     {
         Ok(match part {
             Part::Top | Part::Bottom | Part::Atom(_) => 1,
-            Part::Not(child) => child.min(128) + 1,
+            Part::Not(child) => child.min(DEPTH_LIMIT) + 1,
             Part::And(left, right)
             | Part::Or(left, right)
             | Part::Implies(left, right)
-            | Part::Iff(left, right) => left.max(right).min(128) + 1,
+            | Part::Iff(left, right) => left.max(right).min(DEPTH_LIMIT) + 1,
         })
     }
 }

@@ -4,13 +4,16 @@ ghost use Rattle.line_tokens.specs.Lexemes.{lexeme_of};
 ghost use Rattle.formula_grammar.specs.Symbols.{is_node};
 ghost use Rattle.formula_grammar.specs.Readings.{IsRead, IsTextRead, IsStop, IsTextStop};
 
-use crate::makers::{Depths, Formulas};
+use crate::makers::{DEPTH_LIMIT, Depths, Formulas};
 use crate::run::run;
 use crate::symbols::{has_past, most_open, symbols};
 use edge::NoMemory as OutOfMemory;
 use formulas::{Atoms, Formula};
 use line_tokens::{Token, tokens};
 use std::alloc::Global;
+
+/// The most brackets that are open at one place of a formula that is read.
+const OPEN_LIMIT: usize = 128;
 
 /// Why a text is not read as a formula.
 #[derive(Clone, Copy, Debug, PartialEq, Eq)]
@@ -53,10 +56,10 @@ pub fn read_tokens(alloc: Global, tokens: &[Token], atoms: &Atoms) -> Result<For
     if has_past(&symbols, atoms.len()) {
         return Err(FormulaStop::UnknownAtom);
     }
-    if depth > 128 {
+    if depth > DEPTH_LIMIT {
         return Err(FormulaStop::TooDeep);
     }
-    if most_open(tokens) > 128 {
+    if most_open(tokens) > OPEN_LIMIT {
         return Err(FormulaStop::TooDeep);
     }
     match run(alloc, &Formulas { alloc }, &symbols)? {

@@ -1,11 +1,7 @@
 -- Texts that are written piece by piece.
-use Rattle.std.proofs.Common.{◌≡◌, ℕ, List, [], ◌++◌, refl, sym, ap, ◌∙◌, append_assoc, append-nil}
+use Rattle.std.proofs.Common.{◌≡◌, ℕ, List, [], ◌++◌, sym, ap, ◌∙◌, append_assoc, append-nil}
 use Rattle.std.specs.Prelude.{Result, Ok, Err, OnErr, codes}
 use Rattle.formula_text.specs.CanonicalText.{GrowsWithin, joined_text}
-
--- nothing is written yet
-pub grows_none : (old text : List ℕ) → GrowsWithin old old text
-grows_none old text = ([], text, sym (append-nil old), refl)
 
 -- a part of the first piece is written
 pub grows_first : (old new first rest : List ℕ) → GrowsWithin old new first → GrowsWithin old new (first ++ rest)

@@ -13,9 +13,13 @@ abbrev pub is_plain_name : List ℕ → Bool
 is_plain_name [] = false
 is_plain_name (first ∷ rest) = not (is_ascii_digit first) && list_all is_word_byte (first ∷ rest)
 
--- such a word of at most 64 bytes
+-- the most bytes of a name
+abbrev pub name_limit : ℕ
+name_limit = 64
+
+-- such a word of at most so many bytes
 abbrev pub is_legal : List ℕ → Bool
-is_legal name = is_plain_name name && nat_le (length name) 64
+is_legal name = is_plain_name name && nat_le (length name) name_limit
 
 -- the words of the two constants
 abbrev pub is_reserved : List ℕ → Bool
@@ -29,6 +33,10 @@ is_name name = is_legal name && not (is_reserved name)
 abbrev pub are_distinct : List (List ℕ) → Bool
 are_distinct [] = true
 are_distinct (name ∷ names) = not (list_any (bytes_eq name) names) && are_distinct names
+
+-- the most atoms that are named
+abbrev pub atom_limit : ℕ
+atom_limit = 32
 
 -- distinct names, in order, as those of the atoms and those of the agents
 abbrev pub are_names : List (List ℕ) → Bool

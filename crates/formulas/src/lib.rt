@@ -59,13 +59,14 @@ mod tests {
 
     // the words of two atoms in rising order: 00, 01, 10, 11
     #[test]
-    fn valuations_come_in_the_order_of_words(rt: HostRuntime) {
+    fn valuations_come_in_the_order_of_words(rt: HostRuntime) -> Result<(), Fail> {
         let mut at = Some(Valuation::new(0, 2));
         for (first, second) in [(false, false), (false, true), (true, false), (true, true)] {
-            let Some(here) = at else { break };
+            let here = at.ok_or("no next valuation")?;
             assert_eq!(rt; here, Valuation::new(0, 2).with(0, first).with(1, second));
             at = here.next_after();
         }
         assert_eq!(rt; at, None);
+        Ok(())
     }
 }

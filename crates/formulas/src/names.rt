@@ -1,12 +1,15 @@
 ghost use Rattle.std.specs.Prelude.{◌≡◌, ◌<◌, ◌≤◌, [], ◌∷◌, ◌++◌, true, false, Some, length, position, slice_get, IfNone, IfOk, OnOk, OnErr};
 ghost use Rattle.std.specs.Str.{bytes_eq};
 ghost use Rattle.std.specs.List.{list_all, list_any};
-ghost use Rattle.formulas.specs.Names.{are_names, is_name, is_plain_name, is_reserved, is_word_byte};
+ghost use Rattle.formulas.specs.Names.{are_names, atom_limit, is_name, is_plain_name, is_reserved, is_word_byte};
 
 use edge::NoMemory;
 use indexmap::IndexSet;
 use std::alloc::Global;
 use std::marker::Model;
+
+/// The most bytes that the name of an atom or an agent has.
+const NAME_LIMIT: usize = 64;
 
 /// The names of the atoms, seen as the list of their bytes in order of number.
 ///
@@ -18,13 +21,13 @@ pub struct Atoms {
 
 impl Model for Atoms {
     ghost use Rattle.std.specs.Prelude.{List, ℕ, map, length, true, ◌≡◌, ◌≤◌, string_bytes};
-    ghost use Rattle.formulas.specs.Names.{are_names};
+    ghost use Rattle.formulas.specs.Names.{are_names, atom_limit};
 
     ghost Value = { List (List ℕ) };
 
     ghost view = { λ a. map string_bytes a.names.keys };
 
-    ghost invariant = { λ a. (length a.names.keys ≤ 32) × (are_names (map string_bytes a.names.keys) ≡ true) };
+    ghost invariant = { λ a. (length a.names.keys ≤ atom_limit) × (are_names (map string_bytes a.names.keys) ≡ true) };
 }
 
 impl Atoms {
@@ -40,7 +43,7 @@ impl Atoms {
     /// How many atoms there are, from 0 to 32.
     pub fn len(&self) -> u32
         ensures number { result ≡ length self.now }
-        ensures few { result ≤ 32 }
+        ensures few { result ≤ atom_limit }
         ensures names { are_names self.now ≡ true }
     {
         self.names.len() as u32
@@ -71,7 +74,7 @@ impl Atoms {
     /// Adds an atom and gives its number; `NoMemory` leaves the atoms as they were.
     pub fn add(&mut self, name: &str) -> Result<u32, NoMemory>
         requires name { is_name name.now ≡ true }
-        requires few { length self.old < 32 }
+        requires few { length self.old < atom_limit }
         requires absent { list_any (bytes_eq name.now) self.old ≡ false }
         ensures number { IfOk result (λ number. number ≡ length self.old) }
         ensures added { OnOk result (self.new ≡ self.old ++ name.now ∷ []) }
@@ -120,5 +123,5 @@ pub fn is_reserved(bytes: &[u8]) -> bool
 pub fn is_name(bytes: &[u8]) -> bool
     ensures { result ≡ is_name bytes.now }
 {
-    is_plain_name(bytes) && bytes.len() <= 64 && !is_reserved(bytes)
+    is_plain_name(bytes) && bytes.len() <= NAME_LIMIT && !is_reserved(bytes)
 }

@@ -96,7 +96,7 @@ fn bit_of(bits: u64, atoms: u32, atom: u32) -> bool
 }
 
 /// The bits with one atom's truth value put in.
-#[tactic(auto, using(crate::specs::WordLaws::word_set_true, crate::specs::WordLaws::word_set_false, crate::specs::WordLaws::word_set_same))]
+#[tactic(auto, using(crate::proofs::WordOrder::word_set_true, crate::proofs::WordOrder::word_set_false, crate::proofs::WordOrder::word_set_same))]
 fn bits_with(bits: u64, atoms: u32, atom: u32, value: bool) -> u64
     requires few { atoms ≤ 64 }
     requires fits { bits < 2 ^ atoms }

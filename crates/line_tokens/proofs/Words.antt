@@ -5,7 +5,8 @@ use Rattle.std.specs.List.{list_any, prefix_len, starts_with}
 use Rattle.std.proofs.lemmas.Bool.Decides.{nat_tests}
 use Rattle.std.proofs.lemmas.List.{map-append, take-append-drop}
 use Rattle.std.proofs.lemmas.List.Sums.{prefix_len-le-length}
-use Rattle.line_tokens.specs.Bytes.{is_word_byte, is_blank, is_mark_byte, is_bad, starts_word}
+use Rattle.formulas.specs.Names.{is_word_byte}
+use Rattle.line_tokens.specs.Bytes.{is_blank, is_mark_byte, is_bad, starts_word}
 use Rattle.line_tokens.specs.Lexemes.{Lexeme, word, both_arrow, lexeme_of, lexemes_of, with_word_byte}
 use Rattle.line_tokens.specs.declared.token.Token.{Token}
 use Rattle.line_tokens.specs.Cuts.{BeginsWith}

@@ -1,10 +1,6 @@
 -- The kinds of bytes of a line.
 use Rattle.std.specs.Prelude.{ℕ, Bool, false, List, [], ◌∷◌, ◌==◌, ◌||◌, not}
-use Rattle.std.specs.Char.{is_ascii_alphanumeric}
-
--- a letter, a digit or `_`
-abbrev pub is_word_byte : ℕ → Bool
-is_word_byte b = is_ascii_alphanumeric b || b == 95
+use Rattle.formulas.specs.Names.{is_word_byte}
 
 -- a space, a tab or a carriage return
 abbrev pub is_blank : ℕ → Bool

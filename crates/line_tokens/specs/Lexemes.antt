@@ -1,7 +1,8 @@
 -- The tokens of a text.
 use Rattle.std.specs.Prelude.{ℕ, Bool, true, List, [], ◌∷◌, ◌==◌, ◌&&◌, if◌then◌else◌, nat_eq, drop}
 use Rattle.std.specs.List.{starts_with}
-use Rattle.line_tokens.specs.Bytes.{is_word_byte, is_blank, starts_word}
+use Rattle.formulas.specs.Names.{is_word_byte}
+use Rattle.line_tokens.specs.Bytes.{is_blank, starts_word}
 use Rattle.line_tokens.specs.declared.token.Token.{Token}
 use Rattle.line_tokens.specs.declared.token.Token.TheVariants.{Bang, Ampersand, Bar, Arrow, BothArrow, Open, Close, Colon, Stray, Word}
 
@@ -47,8 +48,8 @@ with_word_byte b true (word w ∷ ts) = word (b ∷ w) ∷ ts
 with_word_byte b _ ts = word (b ∷ []) ∷ ts
 
 -- a byte before a text, from the text's tokens: an arrow takes the place of its own end
-abbrev pub with_byte : ℕ → List ℕ → List Lexeme → List Lexeme
-with_byte b s ts =
+abbrev pub tokens_with_byte : ℕ → List ℕ → List Lexeme → List Lexeme
+tokens_with_byte b s ts =
     if is_word_byte b then with_word_byte b (starts_word s) ts
     else if is_blank b then ts
     else if b == 45 && starts_with nat_eq s (62 ∷ []) then arrow ∷ drop 1 ts
@@ -58,4 +59,4 @@ with_byte b s ts =
 -- the tokens of a text; a bad byte is a stray one
 abbrev pub lexemes_of : List ℕ → List Lexeme
 lexemes_of [] = []
-lexemes_of (b ∷ s) = with_byte b s (lexemes_of s)
+lexemes_of (b ∷ s) = tokens_with_byte b s (lexemes_of s)

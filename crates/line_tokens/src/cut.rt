@@ -1,18 +1,14 @@
 ghost use Rattle.std.specs.Prelude.{◌≡◌, ◌<◌, ◌≤◌, ◌↔◌, length, map, take, drop, true, false, IfOk, IfSome, IsNone, MatchOption, IsTrue, slice_index};
 ghost use Rattle.std.specs.List.{list_any, prefix_len};
-ghost use Rattle.line_tokens.specs.Bytes.{is_word_byte, is_blank, is_bad};
+ghost use Rattle.formulas.specs.Names.{is_word_byte};
+ghost use Rattle.line_tokens.specs.Bytes.{is_blank, is_bad};
 ghost use Rattle.line_tokens.specs.Lexemes.{lexeme_of, lexemes_of};
 ghost use Rattle.line_tokens.specs.Cuts.{BeginsWith};
 
 use crate::Token;
 use edge::NoMemory;
+use formulas::is_word_byte;
 use std::alloc::Global;
-
-fn is_word_byte(byte: u8) -> bool
-    ensures { result ≡ is_word_byte byte }
-{
-    byte.is_ascii_alphanumeric() || byte == b'_'
-}
 
 fn is_blank(byte: u8) -> bool
     ensures { result ≡ is_blank byte }

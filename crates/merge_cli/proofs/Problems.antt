@@ -37,12 +37,12 @@ pub text_answered : {E : Type 0} (distance : DistanceName) (aggregator : Aggrega
 text_answered d a read p (Ok reply) spelled few answers = of_problem p spelled few answers
 text_answered d a read p (Err stop) spelled few answers = tt
 
-named_has : (problem : Problem) (answer : Answer) → IsNamed problem answer → LacksModel (profile_of problem)
+pub named_has : (problem : Problem) (answer : Answer) → IsNamed problem answer → LacksModel (profile_of problem)
 named_has p (Merged best measure verdicts) named = absurd named
 named_has p (Inconsistent constraint agents) named = names_lack (profile_of p) constraint agents named
 named_has p GaveUp named = absurd named
 
-right_lacks_none : (distance : DistanceName) (aggregator : AggregatorName) (problem : Problem) (answer : Answer)
+pub right_lacks_none : (distance : DistanceName) (aggregator : AggregatorName) (problem : Problem) (answer : Answer)
     → IsRight (dist_named distance) (rank_named aggregator) problem answer → LacksModel (profile_of problem) → ⊥
 right_lacks_none d a p (Merged best measure verdicts) right lacks =
     right_has (dist_named d) (rank_named a) (profile_of p) p.asks best measure verdicts right lacks

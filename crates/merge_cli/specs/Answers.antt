@@ -6,9 +6,9 @@ use Rattle.merge_cli.specs.declared.forms.Form.TheVariants.{Merge}
 use Rattle.merge_cli.specs.Forms.{IsFormOf, IsNoForm}
 use Rattle.merge_cli.specs.Merge.{MergeAnswers}
 
--- A table of answers: what the source told before and tells now, what was read, the status and the text.
+-- A table of answers: what the source tells after the run, what was read, the status and the text.
 abbrev pub Table : Type 1
-Table = Option (List ℕ) → Option (List ℕ) → List ℕ → ℕ → List ℕ → Type 0
+Table = Option (List ℕ) → List ℕ → ℕ → List ℕ → Type 0
 
 -- what a command answers
 abbrev pub CommandAnswers : Form → Table
@@ -35,12 +35,12 @@ abbrev pub IsProblemCommand : List (List ℕ) → Type 0
 IsProblemCommand words = (form : Form) × IsFormOf words form × ReadsProblem form
 
 -- the answers to any words
-pub data Answers (words : List (List ℕ)) (before now : Option (List ℕ)) (read : List ℕ) (status : ℕ) (text : List ℕ) : Type 0 where
-  refused_words : IsNoForm words → read ≡ [] → status ≡ 2 → text ≡ codes "refused words\n" → Answers words before now read status text
-  of_command : (form : Form) → IsFormOf words form → CommandAnswers form before now read status text → Answers words before now read status text
+pub data Answers (words : List (List ℕ)) (now : Option (List ℕ)) (read : List ℕ) (status : ℕ) (text : List ℕ) : Type 0 where
+  refused_words : IsNoForm words → read ≡ [] → status ≡ 2 → text ≡ codes "refused words\n" → Answers words now read status text
+  of_command : (form : Form) → IsFormOf words form → CommandAnswers form now read status text → Answers words now read status text
 
 -- the source gave some bytes, and the table has this status and this text for them
 pub record Answered (table : Table) (before now : Option (List ℕ)) (room_before room_now : ℕ) (status : ℕ) (text : List ℕ) : Type 0 where
   pub read : List ℕ
   pub gave : Gave before now room_before room_now read
-  pub answers : table before now read status text
+  pub answers : table now read status text

@@ -68,10 +68,10 @@ pub data TextAnswers (distance : DistanceName) (aggregator : AggregatorName) (re
       → ProblemAnswers distance aggregator problem status text → TextAnswers distance aggregator read status text
 
 -- the answers of a call whose source gave these bytes, and has these left where it tells them
-pub data MergeAnswers (distance : DistanceName) (aggregator : AggregatorName) (before now : Option (List ℕ)) (read : List ℕ) (status : ℕ) (text : List ℕ) : Type 0 where
+pub data MergeAnswers (distance : DistanceName) (aggregator : AggregatorName) (now : Option (List ℕ)) (read : List ℕ) (status : ℕ) (text : List ℕ) : Type 0 where
   too_long : most_bytes < length read
       → status ≡ 1 → text ≡ codes "refused: too long\n"
-      → MergeAnswers distance aggregator before now read status text
+      → MergeAnswers distance aggregator now read status text
   of_text : IsAtEnd now → length read ≤ most_bytes
       → TextAnswers distance aggregator read status text
-      → MergeAnswers distance aggregator before now read status text
+      → MergeAnswers distance aggregator now read status text

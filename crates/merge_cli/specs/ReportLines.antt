@@ -10,15 +10,15 @@ use Rattle.merge_model.specs.declared.answer.Verdict.{Verdict}
 use Rattle.merge_model.specs.declared.answer.Verdict.TheVariants.{Yes, No}
 use Rattle.merge_model.specs.declared.problem.Problem.{Problem}
 use Rattle.profile_text.specs.ProblemText.{problem_text}
+use Rattle.report_words.specs.Words.{line_of}
 use Rattle.merge_cli.specs.Forms.{distance_word, aggregator_word}
 
--- a line: its words with one blank between them, and a line feed
-abbrev pub line_of : List (List ℕ) → List ℕ
-line_of [] = codes "\n"
-line_of (word ∷ words) = word ++ flat_map (λ w. 32 ∷ w) words ++ codes "\n"
+-- a report line: the line of its words, and a line feed
+abbrev pub report_line : List (List ℕ) → List ℕ
+report_line words = line_of words ++ codes "\n"
 
 abbrev pub text_of : List (List (List ℕ)) → List ℕ
-text_of lines = flat_map line_of lines
+text_of lines = flat_map report_line lines
 
 -- a valuation as a word: 0 for false and 1 for true
 abbrev pub valuation_word : List Bool → List ℕ

@@ -2,7 +2,8 @@
 // what the text is where it is refused.
 ghost use Rattle.std.specs.Prelude.{◌≡◌, ℕ, [], ◌∷◌, ◌++◌, map, codes, decimal, OnOk, if◌then◌else◌};
 ghost use Rattle.merge_cli.specs.Forms.{distance_word, aggregator_word};
-ghost use Rattle.merge_cli.specs.ReportLines.{line_of, text_of, valuation_word, head_lines, shown_lines, verdict_lines, verdicts_from, named_line, named_from, answer_lines};
+ghost use Rattle.merge_cli.specs.ReportLines.{report_line, text_of, valuation_word, head_lines, shown_lines};
+ghost use Rattle.merge_cli.specs.ReportLines.{verdict_lines, verdicts_from, named_line, named_from, answer_lines};
 
 use formulas::Valuation;
 use itoa::Buffer;
@@ -61,7 +62,7 @@ fn put_number(text: &mut Vec<u8>, number: u64) -> Result<(), AllocError>
 }
 
 fn put_pair_line(text: &mut Vec<u8>, first: &str, second: &str) -> Result<(), AllocError>
-    ensures { OnOk result (text.new.items ≡ text.old.items ++ line_of (first.now ∷ second.now ∷ [])) }
+    ensures { OnOk result (text.new.items ≡ text.old.items ++ report_line (first.now ∷ second.now ∷ [])) }
 {
     text.extend_from_slice(first.as_bytes())?;
     put_word(text, second)?;
@@ -69,7 +70,7 @@ fn put_pair_line(text: &mut Vec<u8>, first: &str, second: &str) -> Result<(), Al
 }
 
 fn put_numbers_line(text: &mut Vec<u8>, first: &str, numbers: &[u32]) -> Result<(), AllocError>
-    ensures { OnOk result (text.new.items ≡ text.old.items ++ line_of (first.now ∷ map decimal numbers.now)) }
+    ensures { OnOk result (text.new.items ≡ text.old.items ++ report_line (first.now ∷ map decimal numbers.now)) }
 {
     text.extend_from_slice(first.as_bytes())?;
     for number in numbers {
@@ -83,7 +84,7 @@ fn put_valuations_line(
     first: &str,
     valuations: &[Valuation],
 ) -> Result<(), AllocError>
-    ensures { OnOk result (text.new.items ≡ text.old.items ++ line_of (first.now ∷ map valuation_word valuations.now)) }
+    ensures { OnOk result (text.new.items ≡ text.old.items ++ report_line (first.now ∷ map valuation_word valuations.now)) }
 {
     text.extend_from_slice(first.as_bytes())?;
     for valuation in valuations {
@@ -139,7 +140,7 @@ fn put_verdicts(text: &mut Vec<u8>, verdicts: &[Verdict]) -> Result<(), AllocErr
 }
 
 fn put_constraint(text: &mut Vec<u8>, model: Option<Valuation>) -> Result<(), AllocError>
-    ensures { OnOk result (text.new.items ≡ text.old.items ++ line_of (named_line (codes "constraint" ∷ []) model)) }
+    ensures { OnOk result (text.new.items ≡ text.old.items ++ report_line (named_line (codes "constraint" ∷ []) model)) }
 {
     match model {
         None => text.extend_from_slice(b"no-model constraint\n"),
@@ -152,7 +153,7 @@ fn put_constraint(text: &mut Vec<u8>, model: Option<Valuation>) -> Result<(), Al
 }
 
 fn put_agent(text: &mut Vec<u8>, number: u64, model: Option<Valuation>) -> Result<(), AllocError>
-    ensures { OnOk result (text.new.items ≡ text.old.items ++ line_of (named_line (codes "agent" ∷ decimal number ∷ []) model)) }
+    ensures { OnOk result (text.new.items ≡ text.old.items ++ report_line (named_line (codes "agent" ∷ decimal number ∷ []) model)) }
 {
     match model {
         None => {

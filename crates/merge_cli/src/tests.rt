@@ -5,8 +5,19 @@ use std::test::Fail;
 
 const TEXT: &str = "atoms a\nconstraint !a\nagent p : a\nask !a\n";
 
-const REPORT: &str =
-    "merge-report 1\ndistance hamming\naggregator sum\nconflicts 100000\natoms a\nconstraint !a\nagent p : a\nask !a\nmodel 0\nvector 1\nnearest 1\nmeasure 1\nverdict 1 yes\n";
+const REPORT: &str = "merge-report 1\n\
+    distance hamming\n\
+    aggregator sum\n\
+    conflicts 100000\n\
+    atoms a\n\
+    constraint !a\n\
+    agent p : a\n\
+    ask !a\n\
+    model 0\n\
+    vector 1\n\
+    nearest 1\n\
+    measure 1\n\
+    verdict 1 yes\n";
 
 const NINE_ATOMS: &str = "atoms a b c d e f g h i\nagent p : a\n";
 

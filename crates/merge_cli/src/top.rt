@@ -1,11 +1,15 @@
-ghost use Rattle.std.specs.Prelude.{◌≡◌, ◌≢◌, ◌⊎◌, ℕ, ◌<◌, ◌≤◌, ◌-◌, ◌↔◌, List, [], length, take, codes, Option, Some, IfOk, IsErrOf};
+ghost use Rattle.std.specs.Prelude.{◌≡◌, ◌≢◌, ◌⊎◌, ℕ, ◌<◌, ◌≤◌, ◌-◌, ◌↔◌, List, [], length, take, codes};
+ghost use Rattle.std.specs.Prelude.{Option, Some, IfOk, OnErr, IsErrOf};
 ghost use Rattle.std.specs.Io.KnownBytes.{Appends, IsAtEnd};
 ghost use Rattle.edge.specs.Faults.{Rose};
+ghost use Rattle.edge.specs.Streams.{Gave};
 ghost use Rattle.merge_cli.specs.Forms.{IsFormOf, IsNoForm};
 ghost use Rattle.merge_cli.specs.Answers.{Answers, Answered, CommandAnswers, Reads, IsReading, IsUnread, IsProblemCommand};
 ghost use Rattle.merge_cli.specs.Merge.{most_bytes, most_atoms, IsNotBuilt, ReportsMerge, ReportsLack};
 ghost use Rattle.merge_cli.specs.Refusals.{refusal_text};
 ghost use Rattle.merge_model.specs.declared.problem.Problem.{Problem};
+ghost use Rattle.merge_model.specs.Answers.{profile_of};
+ghost use Rattle.merge_model.specs.Merging.{LacksModel};
 ghost use Rattle.problem_reading.specs.declared.stop.TextFault.{TextFault};
 ghost use Rattle.problem_reading.specs.Spelling.{Spelled, FirstFault};
 ghost use Rattle.merge_model.specs.declared.operator.DistanceName.{DistanceName};
@@ -33,6 +37,8 @@ pub struct Outcome {
 fn command_reply<S: Source>(alloc: Global, form: Form, source: &mut S) -> Result<Reply, Stop>
     ensures ok { IfOk result (λ reply. Answered (CommandAnswers form) (S.left source.old) (S.left source.new)
         (S.room source.old) (S.room source.new) reply.status reply.text.items) }
+    ensures err { OnErr result ((bytes : List ℕ) × Gave (S.left source.old) (S.left source.new)
+        (S.room source.old) (S.room source.new) bytes) }
     ensures failed { IsErrOf result Stop.Failed → Reads form × Rose (S.faults source.old) (S.faults source.new) }
     ensures faults { S.faults source.old ≤ S.faults source.new }
     ensures unread { ¬ (Reads form) → source.new ≡ source.old }
@@ -46,6 +52,8 @@ fn command_reply<S: Source>(alloc: Global, form: Form, source: &mut S) -> Result
 fn reply<S: Source>(alloc: Global, words: &Words, source: &mut S) -> Result<Reply, Stop>
     ensures ok { IfOk result (λ reply. Answered (Answers words.now) (S.left source.old) (S.left source.new)
         (S.room source.old) (S.room source.new) reply.status reply.text.items) }
+    ensures err { OnErr result ((bytes : List ℕ) × Gave (S.left source.old) (S.left source.new)
+        (S.room source.old) (S.room source.new) bytes) }
     ensures failed { IsErrOf result Stop.Failed → IsReading words.now × Rose (S.faults source.old) (S.faults source.new) }
     ensures faults { S.faults source.old ≤ S.faults source.new }
     ensures unread { IsUnread words.now → source.new ≡ source.old }
@@ -96,6 +104,14 @@ pub fn run<S: Source, K: Sink>(
         → S.left source.old ≡ Some bytes → IsFormOf words.now (Form.Merge distance aggregator)
         → (problem : Problem) → Spelled bytes problem → result.status ≡ 8
         → ReportsLack distance aggregator problem result.text.items }
+    ensures lacking { (bytes : List ℕ) (distance : DistanceName) (aggregator : AggregatorName)
+        → S.left source.old ≡ Some bytes → IsFormOf words.now (Form.Merge distance aggregator)
+        → (problem : Problem) → Spelled bytes problem → result.status ≡ 8
+        → LacksModel (profile_of problem) }
+    ensures lacking_not_merged { (bytes : List ℕ) (distance : DistanceName) (aggregator : AggregatorName)
+        → S.left source.old ≡ Some bytes → IsFormOf words.now (Form.Merge distance aggregator)
+        → (problem : Problem) → Spelled bytes problem → LacksModel (profile_of problem)
+        → result.status ≢ 0 }
     ensures spelled { (bytes : List ℕ) (distance : DistanceName) (aggregator : AggregatorName)
         → S.left source.old ≡ Some bytes → IsFormOf words.now (Form.Merge distance aggregator)
         → (problem : Problem) → Spelled bytes problem → length bytes ≤ most_bytes
@@ -122,10 +138,12 @@ pub fn run<S: Source, K: Sink>(
     ensures sent { Appends (K.taken sink.old) (K.taken sink.new) (take result.sent result.text.items) }
     ensures whole { result.status ≢ 5 → result.sent ≡ length result.text.items }
 
-    // A text that is not too long is read to its end, and a run that asks no text reads nothing.
-    ensures at_end { S.room source.old - S.room source.new ≤ most_bytes
-        → result.status ≢ 2 → result.status ≢ 4 → result.status ≢ 5 → result.status ≢ 6
-        → IsAtEnd (S.left source.new) }
+    // The source gave some bytes and has those left that it had after them, however the run ended. A
+    // text that is not too long is read to its end, and a run that asks no text reads nothing.
+    ensures source { (bytes : List ℕ) × Gave (S.left source.old) (S.left source.new)
+        (S.room source.old) (S.room source.new) bytes }
+    ensures at_end { IsProblemCommand words.now → S.room source.old - S.room source.new ≤ most_bytes
+        → result.status ≢ 4 → result.status ≢ 6 → IsAtEnd (S.left source.new) }
     ensures unread { IsUnread words.now → source.new ≡ source.old }
     ensures source_faults { S.faults source.old ≤ S.faults source.new }
     ensures sink_faults { K.faults sink.old ≤ K.faults sink.new }

@@ -22,10 +22,6 @@ pub least_ge : (k y : ℕ) (ys : List ℕ) → ((x : ℕ) → Among x (y ∷ ys)
 least_ge k y [] h = h y (inl refl)
 least_ge k y (z ∷ zs) h = omega (arith, h y (inl refl), least_ge k z zs (λ x m. h x (inr m)))
 
-pub least_is : (k : ℕ) (xs : List ℕ) → Among k xs → ((x : ℕ) → Among x xs → k ≤ x) → least_of xs ≡ k
-least_is k [] m h = absurd m
-least_is k (y ∷ ys) m h = omega (arith, least_le k (y ∷ ys) m, least_ge k y ys h)
-
 pub among_map : {X Y : Type 0} (f : X → Y) (x : X) (xs : List X) → Among x xs → Among (f x) (map f xs)
 among_map f x [] h = absurd h
 among_map f x (y ∷ ys) (inl e) = inl (ap f e)

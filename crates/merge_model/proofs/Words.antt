@@ -4,7 +4,7 @@ use Rattle.std.proofs.Math.Nat.{two-pow-succ}
 use Rattle.std.proofs.lemmas.List.{length-map, get_or_append_left, get_or-append_right, get_or-map, drop_more, drop_all, append_assoc}
 use Rattle.std.proofs.lemmas.List.Elements.{filter-append}
 use Rattle.formulas.specs.Words.{all_words, word_of}
-use Rattle.formulas.specs.WordLaws.{word_of_true, word_of_false}
+use Rattle.formulas.proofs.WordOrder.{word_of_true, word_of_false}
 
 split_at : (m b : ℕ) → (m ≤ b) ⊎ (b < m)
 split_at m b = grind arith

@@ -64,7 +64,8 @@ drastic_apart (false ∷ v) (true ∷ w) same none = absurd (omega arith)
 drastic_apart (false ∷ v) (false ∷ w) same none = ap (λ u. false ∷ u) (drastic_apart v w (omega arith) none)
 
 pub drastic_within : (v w : List Bool) → drastic v w ≤ 1
-drastic_within [] w = omega arith
+drastic_within [] [] = omega arith
+drastic_within [] (b ∷ w) = omega arith
 drastic_within (a ∷ v) [] = omega arith
 drastic_within (true ∷ v) (true ∷ w) = drastic_within v w
 drastic_within (true ∷ v) (false ∷ w) = omega arith

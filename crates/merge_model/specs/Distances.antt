@@ -9,16 +9,17 @@ apart true false = 1
 apart false true = 1
 apart false false = 0
 
--- the number of places where two valuations differ
+-- the number of places where two valuations differ, of those that both have
 abbrev pub hamming : List Bool → List Bool → ℕ
 hamming [] w = 0
 hamming (a ∷ v) [] = 0
 hamming (a ∷ v) (b ∷ w) = apart a b + hamming v w
 
--- 0 where two valuations are one, and 1 otherwise
+-- 0 where two valuations are one, and 1 otherwise, also where one is longer
 abbrev pub drastic : List Bool → List Bool → ℕ
-drastic [] w = 0
-drastic (a ∷ v) [] = 0
+drastic [] [] = 0
+drastic [] (b ∷ w) = 1
+drastic (a ∷ v) [] = 1
 drastic (true ∷ v) (true ∷ w) = drastic v w
 drastic (true ∷ v) (false ∷ w) = 1
 drastic (false ∷ v) (true ∷ w) = 1

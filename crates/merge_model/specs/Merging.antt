@@ -42,7 +42,7 @@ abbrev pub vector_of : (List Bool → List Bool → ℕ) → List Formula → Li
 vector_of dist bases v = map (away dist v) bases
 
 -- each entry as often as its number of times says, in order
-abbrev pub repeated : List ℕ → List ℕ → List ℕ
+abbrev pub repeated : {X : Type 0} → List ℕ → List X → List X
 repeated [] us = []
 repeated (t ∷ times) [] = []
 repeated (t ∷ times) (u ∷ us) = replicate t u ++ repeated times us
@@ -50,11 +50,6 @@ repeated (t ∷ times) (u ∷ us) = replicate t u ++ repeated times us
 -- the full vector of a valuation, which is what is compared (the paper's multiset of distances)
 abbrev pub full_of : (List Bool → List Bool → ℕ) → Profile → List Bool → List ℕ
 full_of dist p v = repeated p.times (vector_of dist p.bases v)
-
--- the constraint and every base have a model
-pub record IsConsistent (p : Profile) : Type 0 where
-  pub constraint : HasModel p.atoms p.constraint
-  pub bases : All (HasModel p.atoms) p.bases
 
 -- the constraint or some base has no model
 abbrev pub LacksModel : Profile → Type 0

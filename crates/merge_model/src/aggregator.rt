@@ -48,19 +48,22 @@ pub trait Aggregator {
     ghost monotone: { (a : Self) (u w : List ℕ) → All (λ k. k ≤ 4096) w → u ≢ [] → AllZip (λ j k. j ≤ k) u w → IsNoWorse (rank a) u w };
 
     /// Only the zeros are no worse than the zeros.
-    ghost zero_least: { (a : Self) (u : List ℕ) → All (λ k. k ≤ 4096) u → u ≢ [] → IsNoWorse (rank a) u (replicate (length u) 0) → u ≡ replicate (length u) 0 };
+    ghost zero_least: { (a : Self) (u : List ℕ) → All (λ k. k ≤ 4096) u → u ≢ [] →
+        IsNoWorse (rank a) u (replicate (length u) 0) → u ≡ replicate (length u) 0 };
 
     /// Where both parts are no worse, the joined list is no worse.
-    ghost joined: { (a : Self) (u w s t : List ℕ) → All (λ k. k ≤ 4096) (u ++ w ++ s ++ t) → u ≢ [] → s ≢ [] → length u ≡ length w → length s ≡ length t →
-        IsNoWorse (rank a) u w → IsNoWorse (rank a) s t → IsNoWorse (rank a) (u ++ s) (w ++ t) };
+    ghost joined: { (a : Self) (u w s t : List ℕ) → All (λ k. k ≤ 4096) (u ++ w ++ s ++ t) → u ≢ [] → s ≢ [] →
+        length u ≡ length w → length s ≡ length t → IsNoWorse (rank a) u w → IsNoWorse (rank a) s t →
+        IsNoWorse (rank a) (u ++ s) (w ++ t) };
 }
 
 /// An aggregator by which a better part makes the joined list better. The law says it by its
 /// contraposition: where the joined lists tie, both parts do.
 pub trait StrictAggregator: Aggregator {
     /// Where no part is worse and the joined lists tie, both parts tie.
-    ghost strict: { (a : Self) (u w s t : List ℕ) → All (λ k. k ≤ 4096) (u ++ w ++ s ++ t) → u ≢ [] → s ≢ [] → length u ≡ length w → length s ≡ length t →
-        IsNoWorse (Self.rank a) u w → IsNoWorse (Self.rank a) s t → IsNoWorse (Self.rank a) (w ++ t) (u ++ s) →
+    ghost strict: { (a : Self) (u w s t : List ℕ) → All (λ k. k ≤ 4096) (u ++ w ++ s ++ t) → u ≢ [] → s ≢ [] →
+        length u ≡ length w → length s ≡ length t → IsNoWorse (Self.rank a) u w → IsNoWorse (Self.rank a) s t →
+        IsNoWorse (Self.rank a) (w ++ t) (u ++ s) →
         IsNoWorse (Self.rank a) w u × IsNoWorse (Self.rank a) t s };
 }
 

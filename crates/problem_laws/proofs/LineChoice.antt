@@ -1,18 +1,15 @@
 -- After the same lines each line adds something or has a fault.
-use Rattle.std.proofs.Common.{◌≡◌, ◌≤◌, ◌<◌, ℕ, Bool, true, false, ◌⊎◌, List, [], ◌++◌, Option, Some, None, is_some, nat_le, refl, sym, ◌∙◌, inl, inr, arith}
+use Rattle.std.proofs.Common.{◌≡◌, ◌≢◌, ℕ, Bool, true, false, ◌⊎◌, List, ◌++◌, is_some, refl, inl, inr}
 use Rattle.std.specs.List.{list_any}
-use Rattle.std.proofs.lemmas.Bool.Decides.{nat_tests}
-use Rattle.formulas.specs.Formulas.{depth_of}
 use Rattle.formulas.specs.Names.{is_reserved}
 use Rattle.formulas.specs.declared.formula.Formula.{Formula}
 use Rattle.line_tokens.specs.Bytes.{is_bad}
 use Rattle.line_tokens.specs.Lexemes.{Lexeme}
-use Rattle.formula_grammar.specs.Machine.{operand, run}
-use Rattle.formula_grammar.specs.Makers.{formula_of}
-use Rattle.formula_grammar.specs.Readings.{IsSpelled, IsRead}
-use Rattle.formula_grammar.specs.Symbols.{symbols_of, is_unknown, most_open}
-use Rattle.formula_grammar.proofs.Complete.{read_of}
-use Rattle.formula_grammar.proofs.Sound.{spelled_from_run}
+use Rattle.formula_grammar.specs.declared.read.FormulaStop.{FormulaStop}
+use Rattle.formula_grammar.specs.declared.read.FormulaStop.TheVariants as stop
+use Rattle.formula_grammar.specs.Readings.{IsSpelled, IsRead, IsStop, IsTooDeep}
+use Rattle.formula_grammar.specs.Symbols.{is_unknown}
+use Rattle.formula_grammar.proofs.Choice.{TokenChoice, token_choice}
 use Rattle.problem_lines.specs.Lines.{content_of}
 use Rattle.problem_lines.specs.Forms.{Form, blank, declaration, condition, belief, query, unknown}
 use Rattle.problem_reading.specs.declared.said.Said.{Said}
@@ -29,35 +26,28 @@ abbrev FormulaChoice : List (List ℕ) → List Lexeme → Bool → Bool → Boo
 FormulaChoice atoms ts r t o =
     ((f : Formula) × IsRead atoms ts f × (r ≡ false) × (t ≡ false) × (o ≡ false)) ⊎ ((k : TextKind) × IsFormulaFault atoms ts r t o k)
 
-above : (n : ℕ) → nat_le n 128 ≡ false → 128 < n
-above n h = grind (arith, nat_tests)
+-- tokens that spell a formula over declared atoms, with what the line has beside them
+by_limits : (atoms : List (List ℕ)) (ts : List Lexeme) (r t o : Bool) (f : Formula) → IsSpelled atoms ts f → list_any (is_unknown atoms) ts ≡ false →
+    IsRead atoms ts f ⊎ IsTooDeep ts f → FormulaChoice atoms ts r t o
+by_limits atoms ts true t o f s known depth = inr (Reserved, ((f, s, known), refl))
+by_limits atoms ts false true o f s known depth = inr (Twice, ((f, s, known), refl, refl))
+by_limits atoms ts false false true f s known depth = inr (TooMany, ((f, s, known), refl, refl, refl))
+by_limits atoms ts false false false f s known (inl read) = inl (f, read, refl, refl, refl)
+by_limits atoms ts false false false f s known (inr deep) = inr (TooDeep, ((f, s, known, deep), refl, refl, refl))
 
-upto : (n : ℕ) → nat_le n 128 ≡ true → n ≤ 128
-upto n h = grind (arith, nat_tests)
+by_stop : (atoms : List (List ℕ)) (ts : List Lexeme) (r t o : Bool) (why : FormulaStop) → IsStop atoms ts why → why ≢ stop.NoMemory → FormulaChoice atoms ts r t o
+by_stop atoms ts r t o stop.BadByte h some = absurd h
+by_stop atoms ts r t o stop.BadForm h some = inr (BadForm, h)
+by_stop atoms ts r t o stop.UnknownAtom h some = inr (UnknownAtom, h)
+by_stop atoms ts r t o stop.TooDeep h some = by_limits atoms ts r t o h.0 h.1 h.2 (inr h.3)
+by_stop atoms ts r t o stop.NoMemory h some = absurd (some refl)
 
-by_depth : (atoms : List (List ℕ)) (ts : List Lexeme) (r t o shallow flat : Bool) (f : Formula) → IsSpelled atoms ts f → list_any (is_unknown atoms) ts ≡ false →
-    r ≡ false → t ≡ false → o ≡ false → nat_le (depth_of f) 128 ≡ shallow → nat_le (most_open 0 ts) 128 ≡ flat → FormulaChoice atoms ts r t o
-by_depth atoms ts r t o false flat f s known e h i deep brackets = inr (TooDeep, ((f, s, known, inl (above (depth_of f) deep)), e, h, i))
-by_depth atoms ts r t o true false f s known e h i deep brackets = inr (TooDeep, ((f, s, known, inr (above (most_open 0 ts) brackets)), e, h, i))
-by_depth atoms ts r t o true true f s known e h i deep brackets =
-    inl (f, record { spelled = s; known = known; depth = upto (depth_of f) deep; brackets = upto (most_open 0 ts) brackets }, e, h, i)
-
-by_limits : (atoms : List (List ℕ)) (ts : List Lexeme) (r t o : Bool) (f : Formula) → IsSpelled atoms ts f → list_any (is_unknown atoms) ts ≡ false → FormulaChoice atoms ts r t o
-by_limits atoms ts true t o f s known = inr (Reserved, ((f, s, known), refl))
-by_limits atoms ts false true o f s known = inr (Twice, ((f, s, known), refl, refl))
-by_limits atoms ts false false true f s known = inr (TooMany, ((f, s, known), refl, refl, refl))
-by_limits atoms ts false false false f s known = by_depth atoms ts false false false _ _ f s known refl refl refl refl refl
-
-by_names : (atoms : List (List ℕ)) (ts : List Lexeme) (r t o some : Bool) (f : Formula) → IsSpelled atoms ts f → list_any (is_unknown atoms) ts ≡ some → FormulaChoice atoms ts r t o
-by_names atoms ts r t o true f s e = inr (UnknownAtom, (f, s, e))
-by_names atoms ts r t o false f s e = by_limits atoms ts r t o f s e
-
-by_run : (atoms : List (List ℕ)) (ts : List Lexeme) (r t o : Bool) (read : Option Formula) → run formula_of (symbols_of atoms ts) (operand []) ≡ read → FormulaChoice atoms ts r t o
-by_run atoms ts r t o None e = inr (BadForm, λ f s. let both : Some f ≡ None = sym (read_of s) ∙ e in absurd (cc))
-by_run atoms ts r t o (Some f) e = by_names atoms ts r t o _ f (spelled_from_run (symbols_of atoms ts) f e) refl
+by_tokens : (atoms : List (List ℕ)) (ts : List Lexeme) (r t o : Bool) → TokenChoice atoms ts → FormulaChoice atoms ts r t o
+by_tokens atoms ts r t o (inl h) = by_limits atoms ts r t o h.0 h.1.spelled h.1.known (inl h.1)
+by_tokens atoms ts r t o (inr h) = by_stop atoms ts r t o h.0 h.1 h.2
 
 formula_choice : (atoms : List (List ℕ)) (ts : List Lexeme) (r t o : Bool) → FormulaChoice atoms ts r t o
-formula_choice atoms ts r t o = by_run atoms ts r t o _ refl
+formula_choice atoms ts r t o = by_tokens atoms ts r t o (token_choice atoms ts)
 
 abbrev NameChoice : Bool → Bool → Bool → Type 0
 NameChoice r t o = ((r ≡ false) × (t ≡ false) × (o ≡ false)) ⊎ ((k : TextKind) × IsNameFault r t o k)

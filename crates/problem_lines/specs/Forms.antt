@@ -26,13 +26,14 @@ abbrev pub is_name_token : Lexeme → Bool
 is_name_token (word w) = is_plain_name w
 is_name_token _ = false
 
-abbrev pub word_of : Lexeme → List ℕ
-word_of (word w) = w
-word_of _ = []
+-- the word that a token is, and no bytes for a mark
+abbrev pub token_word : Lexeme → List ℕ
+token_word (word w) = w
+token_word _ = []
 
 abbrev pub words_of : List Lexeme → List (List ℕ)
 words_of [] = []
-words_of (t ∷ ts) = word_of t ∷ words_of ts
+words_of (t ∷ ts) = token_word t ∷ words_of ts
 
 -- `NAME NAME ..`
 abbrev pub atoms_form : List Lexeme → Form

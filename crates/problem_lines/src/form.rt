@@ -2,12 +2,15 @@ ghost use Rattle.std.specs.Prelude.{◌≡◌, ◌≤◌, ◌+◌, ◌-◌, ◌*
 ghost use Rattle.std.specs.Char.{is_ascii_digit};
 ghost use Rattle.std.specs.List.{list_all};
 ghost use Rattle.line_tokens.specs.Lexemes.{lexeme_of};
-ghost use Rattle.problem_lines.specs.Forms.{form_of, atoms_form, agent_form, times_form, numeral_form, base_form, is_name_token, word_of};
-ghost use Rattle.problem_lines.specs.Numerals.{is_numeral, value_after};
+ghost use Rattle.problem_lines.specs.Forms.{form_of, atoms_form, agent_form, times_form, numeral_form, base_form, is_name_token, token_word};
+ghost use Rattle.problem_lines.specs.Numerals.{is_numeral, times_cap, value_after};
 ghost use Rattle.problem_lines.specs.Views.{IsForm};
 
 use formulas::is_plain_name;
 use line_tokens::Token;
+
+/// Where counting how often an agent counts ends: one more than all agents may count together.
+pub const TIMES_CAP: u32 = 33;
 
 /// What a line of a problem text says, by its tokens.
 #[derive(Clone, Copy, Debug)]
@@ -18,9 +21,15 @@ pub enum LineForm<'a> {
     Atoms(&'a [Token<'a>]),
     /// That these tokens are the constraint.
     Constraint(&'a [Token<'a>]),
-    /// That the agent of this name counts so often, where 33 stands for any greater number, with
-    /// these tokens as its base.
-    Agent(&'a str, u32, &'a [Token<'a>]),
+    /// What an agent believes.
+    Agent {
+        /// The agent's name.
+        name: &'a str,
+        /// How often it counts, where `TIMES_CAP` stands for any greater number.
+        times: u32,
+        /// The tokens of its base.
+        base: &'a [Token<'a>],
+    },
     /// That these tokens are a query.
     Ask(&'a [Token<'a>]),
     /// Nothing that a line may say.
@@ -47,17 +56,17 @@ fn is_numeral(word: &str) -> bool
     are_digits(bytes)
 }
 
-/// A number of at most 33 with one more digit, or 33 where that is more.
+/// A number up to the cap with one more digit, or the cap where that is more.
 fn with_digit(number: u32, byte: u8) -> u32
-    requires few { number ≤ 33 }
-    ensures number { result ≡ min (number * 10 + (byte - 48)) 33 }
+    requires few { number ≤ times_cap }
+    ensures number { result ≡ min (number * 10 + (byte - 48)) times_cap }
 {
-    (number * 10 + byte.saturating_sub(b'0') as u32).min(33)
+    (number * 10 + byte.saturating_sub(b'0') as u32).min(TIMES_CAP)
 }
 
-/// The number that a word of digits says, or 33 for a greater one.
+/// The number that a word of digits says, or the cap for a greater one.
 fn value(word: &str) -> u32
-    ensures { result ≡ min (value_after 0 word.now) 33 }
+    ensures { result ≡ min (value_after 0 word.now) times_cap }
 {
     let mut number = 0;
     for byte in word.as_bytes() {
@@ -76,8 +85,8 @@ fn is_name(token: &Token) -> bool
 }
 
 /// The word that a token is, or no bytes for a mark.
-pub fn word_of<'a>(token: Token<'a>) -> &'a str
-    ensures { result.now ≡ word_of (lexeme_of token.entry) }
+pub fn token_word<'a>(token: Token<'a>) -> &'a str
+    ensures { result.now ≡ token_word (lexeme_of token.entry) }
 {
     match token {
         Token::Word(word) => word,
@@ -107,10 +116,10 @@ fn atoms_form<'a>(tokens: &'a [Token<'a>]) -> LineForm<'a>
 }
 
 fn base_form<'a>(name: &'a str, times: u32, tokens: &'a [Token<'a>]) -> LineForm<'a>
-    ensures { (n : ℕ) → times ≡ min n 33 → IsForm result (base_form name.now n (map lexeme_of tokens.now)) }
+    ensures { (n : ℕ) → times ≡ min n times_cap → IsForm result (base_form name.now n (map lexeme_of tokens.now)) }
 {
     match tokens {
-        [Token::Colon, base @ ..] => LineForm::Agent(name, times, base),
+        [Token::Colon, base @ ..] => LineForm::Agent { name, times, base },
         _ => LineForm::Unknown,
     }
 }
@@ -134,7 +143,11 @@ fn times_form<'a>(name: &'a str, tokens: &'a [Token<'a>]) -> LineForm<'a>
     ensures { IsForm result (times_form name.now (map lexeme_of tokens.now)) }
 {
     match tokens {
-        [Token::Colon, base @ ..] => LineForm::Agent(name, 1, base),
+        [Token::Colon, base @ ..] => LineForm::Agent {
+            name,
+            times: 1,
+            base,
+        },
         [Token::Word(word), rest @ ..] => {
             if *word == "times" {
                 numeral_form(name, rest)
@@ -199,11 +212,17 @@ mod tests {
             (b"atoms", "Unknown"),
             (b"atoms a 1b", "Unknown"),
             (b"constraint !a", "Constraint([Bang, Word(\"a\")])"),
-            (b"agent p : a", "Agent(\"p\", 1, [Word(\"a\")])"),
-            (b"agent p times 12:a", "Agent(\"p\", 12, [Word(\"a\")])"),
+            (
+                b"agent p : a",
+                "Agent { name: \"p\", times: 1, base: [Word(\"a\")] }",
+            ),
+            (
+                b"agent p times 12:a",
+                "Agent { name: \"p\", times: 12, base: [Word(\"a\")] }",
+            ),
             (
                 b"agent p times 4294967297 : a",
-                "Agent(\"p\", 33, [Word(\"a\")])",
+                "Agent { name: \"p\", times: 33, base: [Word(\"a\")] }",
             ),
             (b"agent p times 01 : a", "Unknown"),
             (b"agent p a", "Unknown"),

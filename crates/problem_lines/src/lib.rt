@@ -5,4 +5,4 @@ mod comment;
 mod form;
 
 pub use comment::content;
-pub use form::{LineForm, form_of, word_of};
+pub use form::{LineForm, TIMES_CAP, form_of, token_word};

@@ -8,7 +8,7 @@ use Rattle.std.proofs.lemmas.Slice.Eq.{bytes_eq-Decides}
 use Rattle.formulas.specs.Names.{is_name, is_plain_name, is_reserved, are_distinct, are_names}
 use Rattle.formulas.proofs.NameViews.{names_added}
 use Rattle.line_tokens.specs.Lexemes.{Lexeme, word, bang, ampersand, bar, arrow, both_arrow, open_bracket, close_bracket, colon, stray}
-use Rattle.problem_lines.specs.Forms.{is_name_token, word_of, words_of}
+use Rattle.problem_lines.specs.Forms.{is_name_token, token_word, words_of}
 
 none_past : {X : Type 0} (p : X → Bool) (xs : List X) → list_any p xs ≡ false → position_or_len p xs ≡ length xs
 none_past p [] h = refl
@@ -103,7 +103,7 @@ joined_names names (w ∷ ws) are all distinct none =
     ap are_names (sym (append_assoc names (w ∷ []) ws))
     ∙ joined_names (names ++ w ∷ []) ws one (grind arith) (grind arith) (none_more_on ws names w (grind arith) (grind arith))
 
-plain_token : (t : Lexeme) → is_name_token t ≡ true → is_plain_name (word_of t) ≡ true
+plain_token : (t : Lexeme) → is_name_token t ≡ true → is_plain_name (token_word t) ≡ true
 plain_token (word w) h = h
 plain_token bang h = absurd (cc)
 plain_token ampersand h = absurd (cc)
@@ -120,8 +120,8 @@ pub all_names : (ts : List Lexeme) → list_all is_name_token ts ≡ true → li
     list_any (λ n. nat_lt 64 (length n)) (words_of ts) ≡ false → list_all is_name (words_of ts) ≡ true
 all_names [] h i j = refl
 all_names (t ∷ ts) h i j =
-    let plain : is_plain_name (word_of t) ≡ true = plain_token t (grind arith) in
-    let short : nat_le (length (word_of t)) 64 ≡ true = grind (arith, nat_tests) in
+    let plain : is_plain_name (token_word t) ≡ true = plain_token t (grind arith) in
+    let short : nat_le (length (token_word t)) 64 ≡ true = grind (arith, nat_tests) in
     grind (arith, plain, short, all_names ts (grind arith) (grind arith) (grind arith))
 
 pub word_count : (ts : List Lexeme) → length (words_of ts) ≡ length ts

@@ -159,8 +159,8 @@ fn judge_form(declared: &Declarations, form: LineForm) -> Result<Said, LineStop>
             let constraint = judge_condition(declared, tokens)?;
             Ok(Said::Condition(constraint))
         }
-        LineForm::Agent(name, times, tokens) => {
-            let agent = judge_belief(declared, name, times, tokens)?;
+        LineForm::Agent { name, times, base } => {
+            let agent = judge_belief(declared, name, times, base)?;
             Ok(Said::Belief(agent))
         }
         LineForm::Ask(tokens) => {

@@ -9,7 +9,7 @@ use edge::NoMemory;
 use formulas::{Atoms, is_reserved};
 use indexmap::IndexSet;
 use line_tokens::Token;
-use problem_lines::word_of;
+use problem_lines::token_word;
 use std::alloc::Global;
 use std::marker::Model;
 
@@ -63,7 +63,7 @@ pub fn are_distinct(alloc: Global, tokens: &[Token]) -> Result<bool, NoMemory>
 {
     let mut seen = Seen::new(alloc);
     for token in tokens {
-        let word = word_of(*token);
+        let word = token_word(*token);
         if seen.has(word) {
             return Ok(false);
         }
@@ -77,7 +77,7 @@ pub fn any_reserved(tokens: &[Token]) -> bool
     ensures { result ≡ list_any is_reserved (words_of (map lexeme_of tokens.now)) }
 {
     for token in tokens {
-        if is_reserved(word_of(*token).as_bytes()) {
+        if is_reserved(token_word(*token).as_bytes()) {
             return true;
         }
     }
@@ -89,7 +89,7 @@ pub fn any_long(tokens: &[Token]) -> bool
     ensures { result ≡ list_any (λ name. nat_lt 64 (length name)) (words_of (map lexeme_of tokens.now)) }
 {
     for token in tokens {
-        if word_of(*token).len() > 64 {
+        if token_word(*token).len() > 64 {
             return true;
         }
     }
@@ -111,7 +111,7 @@ pub fn any_declared(atoms: &Atoms, tokens: &[Token]) -> bool
     ensures { result ≡ list_any (λ name. list_any (bytes_eq name) atoms.now) (words_of (map lexeme_of tokens.now)) }
 {
     for token in tokens {
-        if is_declared(atoms, word_of(*token)) {
+        if is_declared(atoms, token_word(*token)) {
             return true;
         }
     }
@@ -138,7 +138,7 @@ pub fn extended(alloc: Global, atoms: &Atoms, tokens: &[Token]) -> Result<Atoms,
 {
     let mut more = copied_atoms(alloc, atoms)?;
     for token in tokens {
-        more.add(word_of(*token))?;
+        more.add(token_word(*token))?;
     }
     Ok(more)
 }

@@ -1,8 +1,7 @@
 -- Lines and names that are written one by one.
-use Rattle.std.proofs.Common.{◌≡◌, ℕ, suc, arith, ◌+◌, ◌<◌, List, [], ◌∷◌, ◌++◌, map, take, drop, zero, length, slice_get, get_or, unwrap_or, Some, refl, sym, ap, ◌∙◌, append_assoc, append-nil}
+use Rattle.std.proofs.Common.{◌≡◌, ℕ, suc, arith, ◌+◌, ◌<◌, List, [], ◌∷◌, ◌++◌, map, take, drop, zero, length, slice_get, get_or, Some, refl, sym, ap, ◌∙◌, append_assoc, append-nil}
 use Rattle.std.specs.Prelude.{codes}
 use Rattle.std.proofs.lemmas.List.{map-append}
-use Rattle.std.proofs.lemmas.Option.{unwrap_or-slice_get}
 use lib.Seq.{take-suc}
 use Rattle.profile_text.specs.ProblemText.{lines_text, spaced_names}
 
@@ -10,10 +9,6 @@ use Rattle.profile_text.specs.ProblemText.{lines_text, spaced_names}
 pub lines_text-append : (xs ys : List (List ℕ)) → lines_text (xs ++ ys) ≡ lines_text xs ++ lines_text ys
 lines_text-append [] ys = refl
 lines_text-append (line ∷ xs) ys = ap (λ t. line ++ codes "\n" ++ t) (lines_text-append xs ys) ∙ sym (append_assoc (line ++ codes "\n") (lines_text xs) (lines_text ys))
-
-spaced_names-append : (xs ys : List (List ℕ)) → spaced_names (xs ++ ys) ≡ spaced_names xs ++ spaced_names ys
-spaced_names-append [] ys = refl
-spaced_names-append (name ∷ xs) ys = ap (λ t. codes " " ++ name ++ t) (spaced_names-append xs ys) ∙ sym (append_assoc (codes " " ++ name) (spaced_names xs) (spaced_names ys))
 
 -- up to the next place
 next_take : {X : Type 0} (xs : List X) (k : ℕ) (x : X) → k < length xs → x ≡ get_or xs k x → take (k + 1) xs ≡ take k xs ++ x ∷ []
@@ -29,20 +24,6 @@ lines_step line xs k x old before after within is so_far more =
     ∙ lines_text-append (map line (take k xs)) (line x ∷ [])
     ∙ ap (λ t. lines_text (map line (take k xs)) ++ t) (append-nil (line x ++ codes "\n")) in
     more ∙ ap (λ t. t ++ (line x ++ codes "\n")) so_far ∙ append_assoc old (lines_text (map line (take k xs))) (line x ++ codes "\n") ∙ ap (λ t. old ++ t) (sym written)
-
--- one name more is written
-pub names_step : (names : List (List ℕ)) (k : ℕ) (name old before between after : List ℕ) → k < length names → slice_get names k ≡ Some name →
-    before ≡ old ++ spaced_names (take k names) → between ≡ before ++ codes " " → after ≡ between ++ name → after ≡ old ++ spaced_names (take (k + 1) names)
-names_step names k name old before between after within is so_far blank more =
-    let here : name ≡ get_or names k name = ap (λ o. unwrap_or o name) (sym is) ∙ unwrap_or-slice_get names k name in
-    let written : spaced_names (take (k + 1) names) ≡ spaced_names (take k names) ++ (codes " " ++ name) =
-    ap spaced_names (next_take names k name within here)
-    ∙ spaced_names-append (take k names) (name ∷ [])
-    ∙ ap (λ t. spaced_names (take k names) ++ t) (append-nil (codes " " ++ name)) in
-    more ∙ ap (λ t. t ++ name) (blank ∙ ap (λ t. t ++ codes " ") so_far)
-    ∙ append_assoc (old ++ spaced_names (take k names)) (codes " ") name
-    ∙ append_assoc old (spaced_names (take k names)) (codes " " ++ name)
-    ∙ ap (λ t. old ++ t) (sym written)
 
 -- a place of a list and what is after it
 drop_at : {X : Type 0} (xs : List X) (k : ℕ) (x : X) → slice_get xs k ≡ Some x → drop k xs ≡ x ∷ drop (suc k) xs

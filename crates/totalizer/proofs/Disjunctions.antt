@@ -1,6 +1,6 @@
 -- A fresh variable that is true where one of several is.
 use Rattle.std.proofs.Common.{◌≡◌, ℕ, zero, suc, ◌+◌, ◌≤◌, Bool, true, false, not, ◌&&◌, ◌||◌, List, [], ◌∷◌, ◌++◌, refl, sym, ap, ◌∙◌, subst, arith, take, drop}
-use Rattle.std.specs.Prelude.{map}
+use Rattle.std.specs.Prelude.{map, if◌then◌else◌}
 use Rattle.clause_store.specs.Lits.{positive_lit, sorted_clause, InRange, AreInRange}
 use Rattle.clause_store.specs.Clauses.{Clauses}
 use Rattle.clause_store.specs.Grew.{Grew}
@@ -13,6 +13,7 @@ use Rattle.totalizer.specs.Counter.{AreVarsWithin}
 use Rattle.totalizer.specs.Either.{any_of, lifts, needs_one, either_due, IsEither}
 use Rattle.totalizer.proofs.Steps.{grew_vars}
 use Rattle.totalizer.proofs.Law.{more_vars}
+use Rattle.totalizer.proofs.Sizes.{leaf_unary}
 
 any_pos : (b : ℕ → Bool) (xs : List ℕ) → clause_true b (map positive_lit xs) ≡ any_of b xs
 any_pos b [] = refl
@@ -60,7 +61,7 @@ ups_is : (b : ℕ → Bool) (r : ℕ) (xs : List ℕ) → all_true b (map (lifts
 ups_is b r [] = step_none (b r)
 ups_is b r (x ∷ xs) = ap (λ z. (not (b x) || (b r || false)) && z) (ups_is b r xs) ∙ step_one (b x) (b r) (any_of b xs)
 
-either_to : (b : ℕ → Bool) (r : ℕ) (xs : List ℕ) → Are (map (lifts r) xs ++ needs_one r xs ∷ []) b → b r ≡ any_of b xs
+pub either_to : (b : ℕ → Bool) (r : ℕ) (xs : List ℕ) → Are (map (lifts r) xs ++ needs_one r xs ∷ []) b → b r ≡ any_of b xs
 either_to b r xs h =
     let s = sym (all_true-append b (map (lifts r) xs) (needs_one r xs ∷ [])) ∙ h in
     both_to (b r) (any_of b xs) (sym (ups_is b r xs) ∙ and_left _ _ s) (sym (ap (λ z. (not (b r) || z) && true) (any_pos b xs)) ∙ and_right _ _ s)
@@ -90,7 +91,11 @@ either_defines v xs h =
 
 -- what is due for either
 pub either_is : (v : ℕ) (xs : List ℕ) → AreVarsWithin v xs → IsEither v xs (either_due v xs)
-either_is v xs h = record { extends = either_defines v xs h; value = λ b r. either_to b (v + 1) xs r }
+either_is v xs h = record {
+  extends = either_defines v xs h;
+  in_order = λ b r. leaf_unary b (v + 1);
+  value = λ b r. ap (λ t. if t then 1 else 0) (either_to b (v + 1) xs r);
+}
 
 lifts_split : (r i : ℕ) (xs : List ℕ) → map (lifts r) (take i xs) ++ map (lifts r) (drop i xs) ≡ map (lifts r) xs
 lifts_split r zero xs = refl

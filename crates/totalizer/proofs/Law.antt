@@ -2,17 +2,16 @@
 use Rattle.std.proofs.Common.{◌≡◌, ℕ, zero, suc, ◌+◌, ◌-◌, ◌<◌, ◌≤◌, inl, inr, Bool, true, false, not, ◌&&◌, ◌||◌, List, [], ◌∷◌, ◌++◌, length, min, refl, sym, ap, ◌∙◌, subst, arith}
 use Rattle.std.specs.Prelude.{slice_index, if◌then◌else◌, nat_lt, ◌==◌}
 use Rattle.std.proofs.lemmas.Bool.Decides.{nat_tests, leb_tells}
-use Rattle.std.proofs.lemmas.Grind.{common_steps}
 use Rattle.clause_store.specs.declared.lit.Lit.{Lit}
 use Rattle.clause_store.specs.Lits.{positive_lit, negative_lit, IsWithin, InRange, AreInRange}
 use Rattle.clause_store.specs.Truth.{Agree, clause_true, all_true}
 use Rattle.clause_store.specs.Extends.{Extends, Are}
 use Rattle.clause_store.proofs.Truths.{AreInRange-append, all_true-append, clause_true-append, and_left, and_right, and_both}
 use Rattle.clause_store.proofs.Blocks.{block}
-use Rattle.totalizer.proofs.Steps.{length-fresh}
-use Rattle.totalizer.specs.Counter.{count_of, IsUnary, AreVarsWithin}
-use Rattle.totalizer.specs.Joined.{joined}
-use Rattle.totalizer.specs.Plus.{under, over, up_clauses, down_clauses, pair_clauses, row_clauses, plus_clauses, fresh_outputs, plus_due, Both, IsSum}
+use Rattle.totalizer.proofs.FreshVars.{length-fresh_vars, index_fresh_vars, count_fresh_vars}
+use Rattle.totalizer.specs.Counter.{fresh_vars, count_of, IsUnary, AreVarsWithin}
+use Rattle.totalizer.specs.Joined.{joined_blocks}
+use Rattle.totalizer.specs.Plus.{under, over, up_clauses, down_clauses, pair_clauses, row_clauses, plus_clauses, plus_due, Both, IsSum}
 
 or_false : (x : Bool) → (x || false) ≡ x
 or_false true = refl
@@ -87,23 +86,23 @@ down_says i j p q m n x h lo lo' lt le le' = grind (arith, nat_tests)
 down_holds : (i j p q m n : ℕ) (x : Bool) → (i + j < p + q → m ≤ i → n ≤ j → x ≡ false) → i ≤ p → j ≤ q → ((i == p && (j == q)) || (nat_lt i m || (nat_lt j n || not x))) ≡ true
 down_holds i j p q m n x h lo lo' = grind (arith, nat_tests)
 
-pub joined_to : (b : ℕ → Bool) (f : ℕ → List (List Lit)) (n : ℕ) → Are (joined f n) b → (j : ℕ) → j < n → Are (f j) b
+pub joined_to : (b : ℕ → Bool) (f : ℕ → List (List Lit)) (n : ℕ) → Are (joined_blocks f n) b → (j : ℕ) → j < n → Are (f j) b
 joined_to b f zero h j lt = absurd (omega arith)
 joined_to b f (suc n) h j lt =
-    let s = sym (all_true-append b (joined f n) (f n)) ∙ h in
+    let s = sym (all_true-append b (joined_blocks f n) (f n)) ∙ h in
     elim (leb_tells n j) [
-      | inl x ↦ (let e : n ≡ j = let y = x.1 in omega arith in subst (λ j. Are (f j) b) e (and_right (all_true b (joined f n)) (all_true b (f n)) s))
-      | inr x ↦ joined_to b f n (and_left (all_true b (joined f n)) (all_true b (f n)) s) j x.1
+      | inl x ↦ (let e : n ≡ j = let y = x.1 in omega arith in subst (λ j. Are (f j) b) e (and_right (all_true b (joined_blocks f n)) (all_true b (f n)) s))
+      | inr x ↦ joined_to b f n (and_left (all_true b (joined_blocks f n)) (all_true b (f n)) s) j x.1
     ]
 
-pub joined_from : (b : ℕ → Bool) (f : ℕ → List (List Lit)) (n : ℕ) → ((j : ℕ) → j < n → Are (f j) b) → Are (joined f n) b
+pub joined_from : (b : ℕ → Bool) (f : ℕ → List (List Lit)) (n : ℕ) → ((j : ℕ) → j < n → Are (f j) b) → Are (joined_blocks f n) b
 joined_from b f zero h = refl
 joined_from b f (suc n) h =
-    all_true-append b (joined f n) (f n) ∙ and_both (all_true b (joined f n)) (all_true b (f n)) (joined_from b f n (λ j lt. h j (omega arith))) (h n (omega arith))
+    all_true-append b (joined_blocks f n) (f n) ∙ and_both (all_true b (joined_blocks f n)) (all_true b (f n)) (joined_from b f n (λ j lt. h j (omega arith))) (h n (omega arith))
 
-pub joined_within : (v : ℕ) (f : ℕ → List (List Lit)) (n : ℕ) → ((j : ℕ) → j < n → AreInRange v (f j)) → AreInRange v (joined f n)
+pub joined_within : (v : ℕ) (f : ℕ → List (List Lit)) (n : ℕ) → ((j : ℕ) → j < n → AreInRange v (f j)) → AreInRange v (joined_blocks f n)
 joined_within v f zero h = tt
-joined_within v f (suc n) h = AreInRange-append v (joined f n) (f n) (joined_within v f n (λ j lt. h j (omega arith))) (h n (omega arith))
+joined_within v f (suc n) h = AreInRange-append v (joined_blocks f n) (f n) (joined_within v f n (λ j lt. h j (omega arith))) (h n (omega arith))
 
 lits_within-append : (v : ℕ) (xs ys : List Lit) → InRange v xs → InRange v ys → InRange v (xs ++ ys)
 lits_within-append v [] ys h k = k
@@ -217,39 +216,14 @@ plus_defines v xs ys hx hy =
     (λ b p r k lo hi. let e : k ≡ v + (k - (v + 1)) + 1 = omega arith in ap b e ∙ plus_to v xs ys b p r (k - (v + 1)) (omega arith))
     (λ b p d. plus_from v xs ys b p (λ m lt. let e : v + m + 1 - (v + 1) ≡ m = omega arith in d (v + m + 1) (omega arith) (omega arith) ∙ ap (λ z. nat_lt z (count_of b xs + count_of b ys)) e))
 
-pub index_fresh : (v n k : ℕ) → k < n → slice_index (fresh_outputs v n) k ≡ v + k + 1
-index_fresh v zero k lt = absurd (omega arith)
-index_fresh v (suc n) k lt = grind (arith, common_steps, length-fresh v n, index_fresh v n k)
-
-more_step : (s t : Bool) (m n : ℕ) → n ≡ (if t then suc m else m) → (if s then suc n else n) ≡ (if t then suc (if s then suc m else m) else (if s then suc m else m))
-more_step true true m n e = ap suc e
-more_step true false m n e = ap suc e
-more_step false true m n e = e
-more_step false false m n e = e
-
-count_next : (n c : ℕ) (t : Bool) (m : ℕ) → m ≡ min n c → t ≡ nat_lt n c → (if t then suc m else m) ≡ min (suc n) c
-count_next n c t m e f = grind (arith, nat_tests)
-
-count_more : (b : ℕ → Bool) (xs : List ℕ) (x : ℕ) → count_of b (xs ++ x ∷ []) ≡ (if b x then suc (count_of b xs) else count_of b xs)
-count_more b [] x = refl
-count_more b (y ∷ xs) x = more_step (b y) (b x) (count_of b xs) (count_of b (xs ++ x ∷ [])) (count_more b xs x)
-
-count_fresh : (v n c : ℕ) (b : ℕ → Bool) → ((m : ℕ) → m < n → b (v + m + 1) ≡ nat_lt m c) → count_of b (fresh_outputs v n) ≡ min n c
-count_fresh v zero c b h = omega arith
-count_fresh v (suc n) c b h =
-    let ih = count_fresh v n c b (λ m lt. h m (omega arith)) in
-    let e : v + suc n ≡ v + n + 1 = omega arith in
-    let x = ap b e ∙ h n (omega arith) in
-    count_more b (fresh_outputs v n) (v + suc n) ∙ count_next n c (b (v + suc n)) (count_of b (fresh_outputs v n)) ih x
-
 -- the outputs of a sum are in order, and as many are true as in both
-pub plus_value : (v : ℕ) (xs ys : List ℕ) (b : ℕ → Bool) → Both xs ys b → Are (plus_clauses xs ys v) b → (count_of b (fresh_outputs v (length xs + length ys)) ≡ count_of b xs + count_of b ys) × IsUnary b (fresh_outputs v (length xs + length ys))
+pub plus_value : (v : ℕ) (xs ys : List ℕ) (b : ℕ → Bool) → Both xs ys b → Are (plus_clauses xs ys v) b → (count_of b (fresh_vars v (length xs + length ys)) ≡ count_of b xs + count_of b ys) × IsUnary b (fresh_vars v (length xs + length ys))
 plus_value v xs ys b p r =
     let n = length xs + length ys in
     let ale : count_of b xs ≤ length xs = count_le b xs in
     let cle : count_of b ys ≤ length ys = count_le b ys in
-    let e : count_of b (fresh_outputs v n) ≡ count_of b xs + count_of b ys = let m = count_fresh v n (count_of b xs + count_of b ys) b (plus_to v xs ys b p r) in omega arith in
-    (e, λ k lt. let l : k < n = omega (arith, length-fresh v n) in ap b (index_fresh v n k l) ∙ plus_to v xs ys b p r k l ∙ ap (λ z. nat_lt k z) (sym e))
+    let e : count_of b (fresh_vars v n) ≡ count_of b xs + count_of b ys = let m = count_fresh_vars v n (count_of b xs + count_of b ys) b (plus_to v xs ys b p r) in omega arith in
+    (e, λ k lt. let l : k < n = omega (arith, length-fresh_vars v n) in ap b (index_fresh_vars v n k l) ∙ plus_to v xs ys b p r k l ∙ ap (λ z. nat_lt k z) (sym e))
 
 -- what is due for a sum is a sum
 pub plus_is : (v : ℕ) (xs ys : List ℕ) → AreVarsWithin v xs → AreVarsWithin v ys → IsSum v xs ys (plus_due v xs ys)

@@ -1,3 +1,4 @@
+pub mod FreshVars
 pub mod Steps
 pub mod Law
 pub mod Totals

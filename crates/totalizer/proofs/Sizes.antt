@@ -2,11 +2,9 @@
 use Rattle.std.proofs.Common.{◌≡◌, ℕ, zero, suc, ◌+◌, ◌*◌, ◌<◌, ◌≤◌, ◌/◌, Bool, true, false, List, [], ◌∷◌, length, take, drop, length-take, length-drop, refl, sym, subst, arith}
 use Rattle.std.specs.Prelude.{nat_le, nat_lt, if◌then◌else◌, slice_index}
 use Rattle.std.proofs.lemmas.Bool.Decides.{nat_tests}
-use Rattle.totalizer.specs.Counter.{Due, IsUnary, AreVarsWithin, AllUnary, AllVarsWithin, leaves, AreFresh}
-use Rattle.totalizer.specs.Plus.{fresh_outputs}
-use Rattle.totalizer.specs.Total.{sum_due, total_by, total_due}
-use Rattle.totalizer.proofs.Steps.{length-fresh}
-use Rattle.totalizer.proofs.Law.{index_fresh}
+use Rattle.totalizer.specs.Counter.{Due, fresh_vars, IsUnary, AreVarsWithin, AllUnary, AllVarsWithin, leaves, AreFresh}
+use Rattle.totalizer.specs.Total.{both_due, total_by, total_due}
+use Rattle.totalizer.proofs.FreshVars.{length-fresh_vars, fresh_vars_are}
 use Rattle.totalizer.proofs.Totals.{total_grows, total_more}
 
 one_unary : (t : Bool) → t ≡ nat_lt 0 (if t then 1 else 0)
@@ -68,22 +66,9 @@ total_size (suc f) v (p ∷ q ∷ ps) lo hi =
     let r = total_by f l.vars (drop n parts) in
     let e : nat_le (length parts) 1 ≡ false = grind (arith, nat_tests) in
     let x : r.vars + (length l.outputs + length r.outputs) ≤ v + suc f * size parts = size_num f v (size (take n parts)) (size (drop n parts)) (size parts) l.vars r.vars (length l.outputs) (length r.outputs) a.0 a.1 b.0 b.1 s in
-    let y : length (fresh_outputs r.vars (length l.outputs + length r.outputs)) ≡ size parts = let p = a.1 in let q = b.1 in omega (arith, length-fresh r.vars (length l.outputs + length r.outputs)) in
-    let both : ((sum_due l r).vars ≤ v + suc f * size parts) × (length (sum_due l r).outputs ≡ size parts) = (x, y) in
+    let y : length (fresh_vars r.vars (length l.outputs + length r.outputs)) ≡ size parts = let p = a.1 in let q = b.1 in omega (arith, length-fresh_vars r.vars (length l.outputs + length r.outputs)) in
+    let both : ((both_due l r).vars ≤ v + suc f * size parts) × (length (both_due l r).outputs ≡ size parts) = (x, y) in
     subst (λ (d : Due). (d.vars ≤ v + suc f * size parts) × (length d.outputs ≡ size parts)) (sym (if_false (nat_le (length parts) 1) _ _ e)) both
-
--- outputs in a row are distinct
-pub fresh_outputs_are : (u v w n : ℕ) → u ≤ v → v + n ≤ w → AreFresh u w (fresh_outputs v n)
-fresh_outputs_are u v w n le hi = record {
-  above = λ k lt. let l : k < n = omega (arith, length-fresh v n) in let e = index_fresh v n k l in omega arith;
-  within = λ k lt. let l : k < n = omega (arith, length-fresh v n) in let e = index_fresh v n k l in omega arith;
-  distinct = λ j k hj hk e.
-      let a : j < n = omega (arith, length-fresh v n) in
-      let b : k < n = omega (arith, length-fresh v n) in
-      let x = index_fresh v n j a in
-      let y = index_fresh v n k b in
-      omega arith;
-}
 
 above_one : (u x k : ℕ) → u < x → k < length (x ∷ []) → u < slice_index (x ∷ []) k
 above_one u x zero lo lt = lo
@@ -110,7 +95,7 @@ total_fresh (suc f) u v (x ∷ y ∷ xs) lo hi le h =
     let a = total_grows f v (take n parts) in
     let b = total_grows f l.vars (drop n parts) in
     subst (λ (d : Due). AreFresh u d.vars d.outputs) (sym (if_false (nat_le (length parts) 1) _ _ e))
-    (fresh_outputs_are u r.vars (r.vars + (length l.outputs + length r.outputs)) (length l.outputs + length r.outputs) (omega arith) (omega arith))
+    (fresh_vars_are u r.vars (r.vars + (length l.outputs + length r.outputs)) (length l.outputs + length r.outputs) (omega arith) (omega arith))
 
 -- a total of two or more parts has new outputs alone
 pub more_fresh : (v : ℕ) (parts : List (List ℕ)) → 2 ≤ length parts → AreFresh v (total_due v parts).vars (total_due v parts).outputs
@@ -122,4 +107,4 @@ more_fresh v parts big =
     let a = total_grows (length front) v front in
     let b = total_grows (length back) l.vars back in
     let n = length l.outputs + length r.outputs in
-    subst (λ (d : Due). AreFresh v d.vars d.outputs) (sym (total_more v parts big)) (fresh_outputs_are v r.vars (r.vars + n) n (omega arith) (omega arith))
+    subst (λ (d : Due). AreFresh v d.vars d.outputs) (sym (total_more v parts big)) (fresh_vars_are v r.vars (r.vars + n) n (omega arith) (omega arith))

@@ -12,16 +12,16 @@ use Rattle.clause_store.proofs.Truths.{all_true-append, and_left, and_right}
 use Rattle.clause_store.proofs.Blocks.{next_are, nothing, weaker}
 use Rattle.clause_store.proofs.Grows.{stored-append, grew_front, grew_next}
 use Rattle.totalizer.specs.Counter.{Due, count_of, IsUnary, AreVarsWithin, AllUnary, AllVarsWithin, sum_of}
-use Rattle.totalizer.specs.Plus.{plus_clauses, fresh_outputs, plus_due}
-use Rattle.totalizer.specs.Total.{sum_due, alone_due, total_by, total_due, IsTotal}
-use Rattle.totalizer.proofs.Steps.{length-fresh}
-use Rattle.totalizer.proofs.Law.{plus_defines, plus_value, unary_agree, more_vars, index_fresh}
+use Rattle.totalizer.specs.Plus.{plus_clauses, plus_due}
+use Rattle.totalizer.specs.Total.{both_due, alone_due, total_by, total_due, IsTotal}
+use Rattle.totalizer.proofs.FreshVars.{fresh_vars_within}
+use Rattle.totalizer.proofs.Law.{plus_defines, plus_value, unary_agree, more_vars}
 
 -- with enough fuel the amount does not matter
 pub total_fuel : (f g v : ℕ) (parts : List (List ℕ)) → length parts ≤ f → length parts ≤ g → total_by f v parts ≡ total_by g v parts
 total_fuel zero zero v parts h k = refl
-total_fuel zero (suc g) v parts h k = let e : nat_le (length parts) 1 ≡ true = grind (arith, nat_tests) in sym (ap (λ t. if t then alone_due v parts else sum_due (total_by g v (take (length parts / 2) parts)) (total_by g (total_by g v (take (length parts / 2) parts)).vars (drop (length parts / 2) parts))) e)
-total_fuel (suc f) zero v parts h k = let e : nat_le (length parts) 1 ≡ true = grind (arith, nat_tests) in ap (λ t. if t then alone_due v parts else sum_due (total_by f v (take (length parts / 2) parts)) (total_by f (total_by f v (take (length parts / 2) parts)).vars (drop (length parts / 2) parts))) e
+total_fuel zero (suc g) v parts h k = let e : nat_le (length parts) 1 ≡ true = grind (arith, nat_tests) in sym (ap (λ t. if t then alone_due v parts else both_due (total_by g v (take (length parts / 2) parts)) (total_by g (total_by g v (take (length parts / 2) parts)).vars (drop (length parts / 2) parts))) e)
+total_fuel (suc f) zero v parts h k = let e : nat_le (length parts) 1 ≡ true = grind (arith, nat_tests) in ap (λ t. if t then alone_due v parts else both_due (total_by f v (take (length parts / 2) parts)) (total_by f (total_by f v (take (length parts / 2) parts)).vars (drop (length parts / 2) parts))) e
 total_fuel (suc f) (suc g) v parts h k =
     let n = length parts in
     elim (leb_tells n 1) [
@@ -37,7 +37,7 @@ pick_false true x y e = cc
 pick_false false x y e = refl
 
 -- a sum of more parts than one
-pub total_more : (v : ℕ) (parts : List (List ℕ)) → 2 ≤ length parts → total_due v parts ≡ sum_due (total_due v (take (length parts / 2) parts)) (total_due (total_due v (take (length parts / 2) parts)).vars (drop (length parts / 2) parts))
+pub total_more : (v : ℕ) (parts : List (List ℕ)) → 2 ≤ length parts → total_due v parts ≡ both_due (total_due v (take (length parts / 2) parts)) (total_due (total_due v (take (length parts / 2) parts)).vars (drop (length parts / 2) parts))
 total_more v [] h = absurd (omega arith)
 total_more v (p ∷ ps) h =
     let parts = p ∷ ps in
@@ -91,13 +91,7 @@ pub more_all : (v w : ℕ) (parts : List (List ℕ)) → v ≤ w → AllVarsWith
 more_all v w [] le h = tt
 more_all v w (p ∷ ps) le h = (more_vars v w p le h.0, more_all v w ps le h.1)
 
-fresh_within : (v n : ℕ) → AreVarsWithin (v + n) (fresh_outputs v n)
-fresh_within v n k lt =
-    let l : k < n = omega (arith, length-fresh v n) in
-    let e = index_fresh v n k l in
-    (omega arith, omega arith)
-
-plus_total : (v n : ℕ) (parts : List (List ℕ)) (l r : Due) → AllVarsWithin v parts → IsTotal v (take n parts) l → IsTotal l.vars (drop n parts) r → IsTotal v parts (sum_due l r)
+plus_total : (v n : ℕ) (parts : List (List ℕ)) (l r : Due) → AllVarsWithin v parts → IsTotal v (take n parts) l → IsTotal l.vars (drop n parts) r → IsTotal v parts (both_due l r)
 plus_total v n parts l r w first second =
     let P : (ℕ → Bool) → Type 0 = λ b. AllUnary b parts in
     let g : l.vars ≤ r.vars = second.extends.grows in
@@ -107,7 +101,7 @@ plus_total v n parts l r w first second =
     let two = next_are P (λ b. AllUnary b (drop n parts)) v l.vars r.vars l.clauses r.clauses one second.extends (λ b p h. (unary_split b n parts p).1) in
     let three = next_are P (λ b. IsUnary b l.outputs × IsUnary b r.outputs) v r.vars (r.vars + (length l.outputs + length r.outputs)) (l.clauses ++ r.clauses) (plus_clauses l.outputs r.outputs r.vars) two (plus_defines r.vars l.outputs r.outputs (more_vars l.vars r.vars l.outputs g first.within) second.within)
     (λ b p h. let s = both b p h in let u = unary_split b n parts p in (first.in_order b u.0 s.0, second.in_order b u.1 s.1)) in
-    let means : (b : ℕ → Bool) → P b → Satisfies b (sum_due l r).clauses → (count_of b (sum_due l r).outputs ≡ sum_of b parts) × IsUnary b (sum_due l r).outputs = λ b p h.
+    let means : (b : ℕ → Bool) → P b → Satisfies b (both_due l r).clauses → (count_of b (both_due l r).outputs ≡ sum_of b parts) × IsUnary b (both_due l r).outputs = λ b p h.
     let t = sym (all_true-append b (l.clauses ++ r.clauses) (plus_clauses l.outputs r.outputs r.vars)) ∙ h in
     let s = both b p (and_left _ _ t) in
     let u = unary_split b n parts p in
@@ -117,7 +111,7 @@ plus_total v n parts l r w first second =
     ((let e = z.0 in omega (arith, sum_split b n parts)), z.1) in
     record {
       extends = three;
-      within = fresh_within r.vars (length l.outputs + length r.outputs);
+      within = fresh_vars_within r.vars (length l.outputs + length r.outputs) (r.vars + (length l.outputs + length r.outputs)) (omega arith);
       in_order = λ b p h. (means b p h).1;
       value = λ b p h. (means b p h).0;
     }

@@ -1,11 +1,11 @@
 -- The clauses of a sum of two counters: the totalizer of Bailleux and Boufkhad (2003), both directions.
-use Rattle.std.specs.Prelude.{◌≡◌, ℕ, zero, suc, ◌+◌, ◌-◌, Bool, ◌==◌, ◌&&◌, List, [], ◌∷◌, ◌++◌, length, slice_index, if◌then◌else◌}
+use Rattle.std.specs.Prelude.{◌≡◌, ℕ, ◌+◌, ◌-◌, Bool, ◌==◌, ◌&&◌, List, [], ◌∷◌, ◌++◌, length, slice_index, if◌then◌else◌}
 use Rattle.clause_store.specs.declared.lit.Lit.{Lit}
 use Rattle.clause_store.specs.Lits.{positive_lit, negative_lit}
 use Rattle.clause_store.specs.Truth.{Satisfies}
 use Rattle.clause_store.specs.Extends.{Extends, Are}
-use Rattle.totalizer.specs.Counter.{Due, count_of, IsUnary}
-use Rattle.totalizer.specs.Joined.{joined}
+use Rattle.totalizer.specs.Counter.{Due, fresh_vars, count_of, IsUnary}
+use Rattle.totalizer.specs.Joined.{joined_blocks}
 
 -- the negation of output i, from 1, if there is one
 abbrev pub under : List ℕ → ℕ → List Lit
@@ -28,22 +28,17 @@ pair_clauses xs ys v i j = up_clauses xs ys v i j ++ down_clauses xs ys v i j
 
 -- the pairs (i, 0) to (i, length ys)
 abbrev pub row_clauses : List ℕ → List ℕ → ℕ → ℕ → List (List Lit)
-row_clauses xs ys v i = joined (pair_clauses xs ys v i) (length ys + 1)
+row_clauses xs ys v i = joined_blocks (pair_clauses xs ys v i) (length ys + 1)
 
 abbrev pub plus_clauses : List ℕ → List ℕ → ℕ → List (List Lit)
-plus_clauses xs ys v = joined (row_clauses xs ys v) (length xs + 1)
-
--- the n variables after v
-abbrev pub fresh_outputs : ℕ → ℕ → List ℕ
-fresh_outputs v zero = []
-fresh_outputs v (suc n) = fresh_outputs v n ++ (v + suc n) ∷ []
+plus_clauses xs ys v = joined_blocks (row_clauses xs ys v) (length xs + 1)
 
 -- what is due for the sum of two counters, after v variables
 abbrev pub plus_due : ℕ → List ℕ → List ℕ → Due
 plus_due v xs ys = record {
   clauses = plus_clauses xs ys v;
   vars = v + (length xs + length ys);
-  outputs = fresh_outputs v (length xs + length ys);
+  outputs = fresh_vars v (length xs + length ys);
 }
 
 -- both count

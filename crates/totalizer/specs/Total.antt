@@ -6,8 +6,8 @@ use Rattle.totalizer.specs.Counter.{Due, count_of, IsUnary, AllUnary, AreVarsWit
 use Rattle.totalizer.specs.Plus.{plus_due}
 
 -- what is due for the front and for the back, and then their sum
-abbrev pub sum_due : Due → Due → Due
-sum_due front back =
+abbrev pub both_due : Due → Due → Due
+both_due front back =
     let both = plus_due back.vars front.outputs back.outputs in
     record { clauses = (front.clauses ++ back.clauses) ++ both.clauses; vars = both.vars; outputs = both.outputs }
 
@@ -23,7 +23,7 @@ alone_due v parts = record { clauses = []; vars = v; outputs = first_of parts }
 abbrev pub total_by : ℕ → ℕ → List (List ℕ) → Due
 total_by zero v parts = alone_due v parts
 total_by (suc fuel) v parts =
-    if nat_le (length parts) 1 then alone_due v parts else sum_due (total_by fuel v (take (length parts / 2) parts)) (total_by fuel (total_by fuel v (take (length parts / 2) parts)).vars (drop (length parts / 2) parts))
+    if nat_le (length parts) 1 then alone_due v parts else both_due (total_by fuel v (take (length parts / 2) parts)) (total_by fuel (total_by fuel v (take (length parts / 2) parts)).vars (drop (length parts / 2) parts))
 
 -- what is due for the total of the parts, after v variables
 abbrev pub total_due : ℕ → List (List ℕ) → Due

@@ -3,8 +3,8 @@
 ghost use Rattle.std.specs.Prelude.{◌≡◌, ℕ, ◌+◌, ◌*◌, ◌<◌, ◌≤◌, ◌^◌, [], ◌∷◌, ◌++◌, IfOk, OnOk, OnErr, length, map};
 ghost use Rattle.clause_store.specs.Lits.{sorted_clause};
 ghost use Rattle.clause_store.specs.Grew.{Grew};
-ghost use Rattle.totalizer.specs.Counter.{AreVarsWithin, AllVarsWithin};
-ghost use Rattle.totalizer.specs.Plus.{up_clauses, down_clauses, pair_clauses, row_clauses, plus_clauses, fresh_outputs, plus_due, IsSum};
+ghost use Rattle.totalizer.specs.Counter.{fresh_vars, AreVarsWithin, AllVarsWithin};
+ghost use Rattle.totalizer.specs.Plus.{up_clauses, down_clauses, pair_clauses, row_clauses, plus_clauses, plus_due, IsSum};
 ghost use Rattle.totalizer.specs.Total.{total_due, IsTotal};
 
 use crate::literals::{add, positive};
@@ -151,9 +151,10 @@ fn add_rows(
 }
 
 // That many fresh variables.
+#[tactic(auto, using(crate::proofs::FreshVars::fresh_vars_next))]
 fn fresh_many(alloc: Global, clauses: &mut ClauseList, n: usize) -> Result<Vec<u32>, NoMemory>
     requires room { clauses.old.vars + n ≤ 2 ^ 31 }
-    ensures outputs { IfOk result (λ r. r.items ≡ fresh_outputs clauses.old.vars n) }
+    ensures outputs { IfOk result (λ r. r.items ≡ fresh_vars clauses.old.vars n) }
     ensures vars { OnOk result (clauses.new.vars ≡ clauses.old.vars + n) }
     ensures list { clauses.new.list ≡ clauses.old.list }
     ensures more { clauses.old.vars ≤ clauses.new.vars }

@@ -49,6 +49,7 @@ fn a_sum_of_two_has_six_clauses(rt: HostRuntime) -> Result<(), Fail> {
     let parts = leaves(rt.alloc(), &[first.var, second.var])?;
     let sum = total(rt.alloc(), &mut clauses, &parts)?;
     assert_sum_of_two(&rt, &clauses, &sum);
+    assert_eq!(rt; sum.into_outputs().as_slice(), [3, 4].as_slice());
     Ok(())
 }
 

@@ -26,7 +26,7 @@ impl Model for Unary {
 }
 
 impl Unary {
-    /// A counter with these outputs.
+    /// The counter with these outputs, made without taking memory.
     pub fn from_outputs(outputs: Vec<u32>) -> Unary
         requires some { 1 ≤ length outputs.items }
         requires few { length outputs.items ≤ 2 ^ 31 }
@@ -34,6 +34,17 @@ impl Unary {
         ensures { result ≡ outputs.items }
     {
         Unary { outputs }
+    }
+
+    /// The outputs, given back without taking memory.
+    pub fn into_outputs(self) -> Vec<u32>
+        ensures value { result.items ≡ self }
+        ensures some { 1 ≤ length self }
+        ensures few { length self ≤ 2 ^ 31 }
+        ensures numbered { All (λ v. 1 ≤ v) self }
+    {
+        let Unary { outputs } = self;
+        outputs
     }
 
     /// How many outputs there are.

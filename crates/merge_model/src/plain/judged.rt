@@ -43,7 +43,8 @@ fn verdicts<D: Distance, A: Aggregator>(
     walk: &Walk,
 ) -> Result<Vec<Verdict>, NoMemory>
     requires { IsWalk (D.dist distance.now) (A.rank aggregator.now) (profile_of problem.now) walk.now }
-    ensures { IfOk result (λ verdicts. AllZip (IsVerdict (D.dist distance.now) (A.rank aggregator.now) (profile_of problem.now)) problem.now.asks verdicts.items) }
+    ensures { IfOk result (λ verdicts. AllZip (IsVerdict (D.dist distance.now) (A.rank aggregator.now) (profile_of problem.now))
+        problem.now.asks verdicts.items) }
 {
     let mut verdicts = Vec::new(alloc);
     for ask in problem.asks.as_slice() {

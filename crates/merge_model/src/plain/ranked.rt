@@ -19,7 +19,8 @@ fn full<D: Distance>(
 ) -> Result<Vec<u32>, NoMemory>
     requires aligned { length tables.now ≡ length agents.now }
     requires over { All (IsOver (length from)) tables.now }
-    ensures { IfOk result (λ full. full.items ≡ repeated (map (λ agent. agent.times) agents.now) (distances_of (D.dist distance.now) tables.now from)) }
+    ensures { IfOk result (λ full. full.items ≡ repeated (map (λ agent. agent.times) agents.now)
+        (distances_of (D.dist distance.now) tables.now from)) }
 {
     let vector = vector(alloc, distance, from, tables)?;
     full_vector(alloc, &vector, agents)
@@ -35,7 +36,8 @@ pub fn full_vectors<D: Distance>(
 ) -> Result<Vec<Sequence<u32>>, NoMemory>
     requires aligned { length tables.now ≡ length agents.now }
     requires over { All (λ v. All (IsOver (length v)) tables.now) candidates.now }
-    ensures { IfOk result (λ fulls. fulls.items ≡ map (λ v. repeated (map (λ agent. agent.times) agents.now) (distances_of (D.dist distance.now) tables.now v)) candidates.now) }
+    ensures { IfOk result (λ fulls. fulls.items ≡ map (λ v. repeated (map (λ agent. agent.times) agents.now)
+        (distances_of (D.dist distance.now) tables.now v)) candidates.now) }
 {
     let mut fulls = Vec::new(alloc);
     for candidate in candidates {
@@ -86,7 +88,9 @@ pub fn refuting_place<A: Aggregator>(
     requires comparable { AreComparable fulls.now }
     requires within { best < length fulls.now }
     requires width { All (λ v. width_of ask.now ≤ length v) candidates.now }
-    ensures { MatchOption result ((k : ℕ) → Refutes (A.rank aggregator.now) candidates.now fulls.now best ask.now k → ⊥) (λ place. Refutes (A.rank aggregator.now) candidates.now fulls.now best ask.now place) }
+    ensures { MatchOption result
+        ((k : ℕ) → Refutes (A.rank aggregator.now) candidates.now fulls.now best ask.now k → ⊥)
+        (λ place. Refutes (A.rank aggregator.now) candidates.now fulls.now best ask.now place) }
 {
     for place in 0..candidates.len() {
         if refutes(aggregator, candidates, fulls, best, ask, place) {

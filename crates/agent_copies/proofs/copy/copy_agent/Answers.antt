@@ -1,8 +1,10 @@
-use Rattle.std.proofs.Common.{◌≡◌, ◌+◌, ◌≤◌, length, sym, ap, ◌∙◌, subst, arith}
+use Rattle.std.proofs.Common.{◌≡◌, ℕ, ◌+◌, List, ◌++◌, length, sym, ap, ◌∙◌, subst, arith}
+use Rattle.std.specs.Prelude.{map}
+use Rattle.clause_store.specs.declared.lit.Lit.{Lit}
 use Rattle.clause_store.specs.Grew.{Grew}
-use Rattle.clause_store.specs.Lits.{InRange}
+use Rattle.clause_store.specs.Lits.{InRange, sorted_clause}
 use Rattle.clause_store.proofs.Truths.{within_more}
-use Rattle.clause_store.proofs.Grows.{grew_none, grew_front}
+use Rattle.clause_store.proofs.Grows.{grew_none, grew_front, grew_next}
 use Rattle.clause_translation.specs.Definition.{Definition, definition}
 use Rattle.totalizer.proofs.Steps.{grew_vars}
 use Rattle.agent_copies.specs.Copy.{fresh_lits, copy_due}
@@ -33,6 +35,19 @@ returns-in_err-root-clause-err g c =
     (grew_front c.args.clauses.now c.define.new.clauses d.clauses (g.D.Counted.due c.args.distance.now d.root c.args.shared.now (fresh_lits c.args.clauses.now.vars (length c.args.shared.now))).clauses
     (grew_vars c.args.clauses.now c.fresh_lits.new.clauses c.define.new.clauses d.clauses c.fresh_lits.ensures.list c.fresh_lits.ensures.more
     (subst (λ (d : Definition). Grew c.fresh_lits.new.clauses c.define.new.clauses d.clauses) due c.in_err-root.ensures.err)))
+
+pub returns-in_err-away-clause-err : goal.returns-in_err-away-clause-err
+returns-in_err-away-clause-err g c =
+    let items = c.deref.ensures.value ∙ c.in_ok-own.ensures.lits in
+    let own = fresh_lits c.args.clauses.now.vars (length c.args.shared.now) in
+    let d = definition own c.args.base.now (c.args.clauses.now.vars + length c.args.shared.now) in
+    let due = ap (λ xs. definition xs c.args.base.now c.fresh_lits.new.clauses.vars) items ∙ ap (definition own c.args.base.now) c.in_ok-own.ensures.vars in
+    let list : c.define.new.clauses.list ≡ c.args.clauses.now.list ++ map sorted_clause d.clauses = c.in_ok-root.ensures.list ∙ ap (λ (e : Definition). c.fresh_lits.new.clauses.list ++ map sorted_clause e.clauses) due ∙ ap (λ (cs : List (List Lit)). cs ++ map sorted_clause d.clauses) c.fresh_lits.ensures.list in
+    let root : c.define.new.clauses.vars ≡ d.root = c.in_ok-root.ensures.vars ∙ ap (λ (e : Definition). e.root) due in
+    on_err c.from_residual-in_err-away.result
+    (grew_next c.args.clauses.now c.define.new.clauses c.counter.new.clauses d.clauses (g.D.Counted.due c.args.distance.now d.root c.args.shared.now own).clauses list (omega (arith, c.in_ok-root.ensures.vars, c.define.ensures.fresh, c.fresh_lits.ensures.more))
+    (subst (λ (xs : List Lit). Grew c.define.new.clauses c.counter.new.clauses (g.D.Counted.due c.args.distance.now d.root c.args.shared.now xs).clauses) (c.deref-2.ensures.value ∙ c.in_ok-own.ensures.lits)
+    (subst (λ (n : ℕ). Grew c.define.new.clauses c.counter.new.clauses (g.D.Counted.due c.args.distance.now n c.args.shared.now c.deref-2.result.now).clauses) root c.in_err-away.ensures.err)))
 
 pub counter-requires-clause-lengths : goal.counter-requires-clause-lengths
 counter-requires-clause-lengths g c =

@@ -1,4 +1,4 @@
-use Rattle.std.proofs.Common.{◌≡◌, ◌+◌, ◌<◌, ◌≤◌, length, sym, ap, ◌∙◌, arith}
+use Rattle.std.proofs.Common.{length, ap, ◌∙◌, arith}
 use Rattle.clause_store.specs.Clauses.{Clauses}
 use Rattle.agent_copies.specs.Differences.{difference_at}
 use Rattle.totalizer.proofs.Steps.{joined_more, joined_grew}

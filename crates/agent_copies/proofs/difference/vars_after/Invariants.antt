@@ -1,5 +1,5 @@
 use Rattle.std.proofs.Common.{◌≡◌}
-use Rattle.agent_copies.specs.Differences.{fresh_vars}
+use Rattle.totalizer.specs.Counter.{fresh_vars}
 use Rattle.agent_copies.proofs.difference.vars_after.Given as goal
 
 abbrev pub invariant-loop-i : goal.invariant-loop-i

@@ -1,20 +1,20 @@
 use Rattle.std.proofs.Common.{◌≡◌, ℕ, zero, suc, ◌<◌, ◌+◌, List, [], ◌∷◌, ◌++◌, length, replicate, drop, get_or, add-one, append_assoc, ap, sym, ◌∙◌, arith}
-use Rattle.aggregators.specs.Levels.{repeats}
+use Rattle.merge_model.specs.Merging.{repeated}
 use Rattle.aggregators.proofs.counters.repeated_counters.Goals as goal
 
 -- one place on
 next : (counters : List (List ℕ)) (times : List ℕ) (i : ℕ) (c : List ℕ) → length counters ≡ length times → i < length counters → c ≡ get_or counters i c →
-    repeats (drop i times) (drop i counters) ≡ replicate (get_or times i 0) c ++ repeats (drop (suc i) times) (drop (suc i) counters)
+    repeated (drop i times) (drop i counters) ≡ replicate (get_or times i 0) c ++ repeated (drop (suc i) times) (drop (suc i) counters)
 next [] times i c same h is = absurd (omega arith)
 next (x ∷ counters) [] i c same h is = absurd (omega arith)
-next (x ∷ counters) (t ∷ times) zero c same h is = ap (λ y. replicate t y ++ repeats times counters) (sym is)
+next (x ∷ counters) (t ∷ times) zero c same h is = ap (λ y. replicate t y ++ repeated times counters) (sym is)
 next (x ∷ counters) (t ∷ times) (suc i) c same h is = next counters times i c (omega arith) (omega arith) is
 
 one_more : (counters : List (List ℕ)) (times : List ℕ) (parts new all : List (List ℕ)) (i : ℕ) (c : List ℕ) → length counters ≡ length times → i < length counters → c ≡ get_or counters i c →
-    new ≡ parts ++ replicate (get_or times i 0) c → parts ++ repeats (drop i times) (drop i counters) ≡ all →
-    new ++ repeats (drop (i + 1) times) (drop (i + 1) counters) ≡ all
+    new ≡ parts ++ replicate (get_or times i 0) c → parts ++ repeated (drop i times) (drop i counters) ≡ all →
+    new ++ repeated (drop (i + 1) times) (drop (i + 1) counters) ≡ all
 one_more counters times parts new all i c same h is pushed before =
-    let rest = repeats (drop (suc i) times) (drop (suc i) counters) in
+    let rest = repeated (drop (suc i) times) (drop (suc i) counters) in
     rw (add-one i)
     (ap (λ x. x ++ rest) pushed ∙ append_assoc parts (replicate (get_or times i 0) c) rest ∙ ap (λ x. parts ++ x) (sym (next counters times i c same h is)) ∙ before)
 

@@ -1,11 +1,21 @@
-use Rattle.std.proofs.Common.{◌-◌, length, arith}
+use Rattle.std.proofs.Common.{◌-◌, ◌++◌, length, refl, ap, arith}
 use Rattle.totalizer.specs.Counter.{leaves}
 use Rattle.totalizer.specs.Total.{total_due}
 use Rattle.totalizer.proofs.Steps.{on_err}
 use Rattle.totalizer.proofs.Totals.{more_all, total_grows}
 use Rattle.aggregators.specs.Levels.{column, totals_due}
-use Rattle.aggregators.proofs.Steps.{longer, level_room, grew_whole, step_list, step_vars, step_levels, step_grew, end_list, end_levels, end_vars}
+use Rattle.aggregators.proofs.Steps.{due_all, longer, level_room, grew_whole, step_list, step_vars, step_levels, step_grew, end_list, end_levels, end_vars}
 use Rattle.aggregators.proofs.sorted.add_levels.Goals as goal
+
+pub loop-left-init : goal.loop-left-init
+loop-left-init c = record {
+  low = omega arith;
+  more = omega arith;
+  room = omega arith;
+  vars = refl;
+  list = due_all c.args.clauses.now.list (totals_due c.args.top c.args.clauses.now.vars c.args.parts.now).clauses;
+  levels = ap (λ xs. xs ++ (totals_due c.args.top c.args.clauses.now.vars c.args.parts.now).levels) c.new-levels.ensures.items;
+}
 
 pub add_level-requires-clause-long : goal.add_level-requires-clause-long
 add_level-requires-clause-long c = longer (c.loop-left.left - 1) c.args.top c.args.parts.now (omega (arith, c.loop-left.invariant.low)) c.requires.sized
@@ -50,4 +60,4 @@ pub returns-clause-vars : goal.returns-clause-vars
 returns-clause-vars c = end_vars c.loop-left.left c.loop-left.clauses.vars _ c.args.parts.now (omega arith) c.loop-left.invariant.vars
 
 pub returns-clause-list : goal.returns-clause-list
-returns-clause-list c = end_list c.loop-left.left c.loop-left.clauses.vars c.args.parts.now c.loop-left.clauses.list _ (omega arith) c.loop-left.invariant.list
+returns-clause-list c = end_list c.loop-left.left c.loop-left.clauses.vars c.args.parts.now c.args.clauses.now.list c.loop-left.clauses.list _ (omega arith) c.loop-left.invariant.list

@@ -1,7 +1,6 @@
 use Rattle.std.proofs.Common.{◌≡◌, ◌+◌, ◌*◌, ◌≤◌, ◌++◌}
-use Rattle.std.specs.Prelude.{map}
-use Rattle.clause_store.specs.Lits.{sorted_clause}
 use Rattle.aggregators.specs.Levels.{totals_due}
+use Rattle.aggregators.proofs.Steps.{IsDueStill}
 use Rattle.aggregators.proofs.sorted.add_levels.Given as goal
 
 abbrev pub invariant-loop-left : goal.invariant-loop-left
@@ -10,7 +9,7 @@ invariant-loop-left l = record {
   more : l.initial.clauses.vars ≤ l.clauses.vars;
   room : l.clauses.vars + 4096 * l.left ≤ l.initial.clauses.vars + 4096 * l.top;
   vars : (totals_due l.left l.clauses.vars l.parts).vars ≡ (totals_due l.top l.initial.clauses.vars l.parts).vars;
-  list : l.clauses.list ++ map sorted_clause (totals_due l.left l.clauses.vars l.parts).clauses ≡ l.initial.clauses.list ++ map sorted_clause (totals_due l.top l.initial.clauses.vars l.parts).clauses;
+  list : IsDueStill l.initial.clauses.list l.clauses.list (totals_due l.left l.clauses.vars l.parts).clauses (totals_due l.top l.initial.clauses.vars l.parts).clauses;
   levels : l.levels.items ++ (totals_due l.left l.clauses.vars l.parts).levels ≡ (totals_due l.top l.initial.clauses.vars l.parts).levels;
 }
 

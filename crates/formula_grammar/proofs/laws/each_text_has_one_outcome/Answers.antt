@@ -6,6 +6,7 @@ use Rattle.formula_grammar.specs.declared.read.FormulaStop.{FormulaStop}
 use Rattle.formula_grammar.specs.declared.read.FormulaStop.TheVariants.{BadByte, BadForm, UnknownAtom, TooDeep, NoMemory}
 use Rattle.formula_grammar.specs.Readings.{IsTextRead, IsTextStop, IsTooDeep}
 use Rattle.formula_grammar.specs.Symbols.{most_open}
+use Rattle.formula_grammar.proofs.Choice.{text_choice}
 use Rattle.formula_grammar.proofs.Complete.{one_formula}
 use Rattle.formula_grammar.proofs.laws.each_text_has_one_outcome.Goals as goal
 
@@ -45,6 +46,9 @@ one_stop atoms text TooDeep BadByte h i x y = let both : true ≡ false = sym i 
 one_stop atoms text TooDeep BadForm h i x y = absurd (i.1 h.1.0 h.1.1)
 one_stop atoms text TooDeep UnknownAtom h i x y = let both : true ≡ false = sym i.1.2 ∙ h.1.2 in absurd (cc)
 one_stop atoms text TooDeep TooDeep h i x y = refl
+
+pub returns-clause-has_outcome : goal.returns-clause-has_outcome
+returns-clause-has_outcome c = text_choice c.args._atoms.now c.args._text.now
 
 pub returns-clause-one_formula : goal.returns-clause-one_formula
 returns-clause-one_formula c f g h i = one_formula h.read.spelled i.read.spelled

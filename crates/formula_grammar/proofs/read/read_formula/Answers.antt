@@ -1,28 +1,17 @@
-use Rattle.std.proofs.Common.{◌≡◌, ℕ, Bool, true, false, List, map, count_by, IsTrue, IsNone, IfSome, refl, ap, subst, ◌∙◌, arith}
+use Rattle.std.proofs.Common.{◌≡◌, Bool, true, false, map, count_by, IsTrue, IsNone, IfSome, refl, ap, subst, ◌∙◌, arith}
 use Rattle.std.specs.List.{list_any}
 use Rattle.std.proofs.lemmas.List.Sums.{count_by-le-length}
 use Rattle.std.proofs.lemmas.Result.{IfOk-weaker, IfErr-weaker}
 use Rattle.line_tokens.specs.Bytes.{is_bad}
-use Rattle.line_tokens.specs.Lexemes.{Lexeme, lexeme_of, lexemes_of}
-use Rattle.formula_grammar.specs.declared.read.FormulaStop.{FormulaStop}
-use Rattle.formula_grammar.specs.declared.read.FormulaStop.TheVariants.{BadByte, BadForm, UnknownAtom, TooDeep, NoMemory}
-use Rattle.formula_grammar.specs.Readings.{IsStop, IsTextStop}
+use Rattle.line_tokens.specs.Lexemes.{lexeme_of, lexemes_of}
 use Rattle.formula_grammar.specs.Symbols.{is_node}
+use Rattle.formula_grammar.proofs.Choice.{text_stop}
 use Rattle.formula_grammar.proofs.TokenSizes.{token_count}
 use Rattle.formula_grammar.proofs.read.read_formula.Goals as goal
 
 not_true : (b : Bool) → (IsTrue b → ⊥) → b ≡ false
 not_true true h = absurd (h refl)
 not_true false h = refl
-
--- what stops the tokens of a text without a bad byte stops the text
-text_stop : (atoms : List (List ℕ)) (text : List ℕ) (ts : List Lexeme) → ts ≡ lexemes_of text → list_any is_bad text ≡ false →
-    (stop : FormulaStop) → IsStop atoms ts stop → IsTextStop atoms text stop
-text_stop atoms text ts e good BadByte h = absurd h
-text_stop atoms text ts e good BadForm h = (good, subst (λ (xs : List Lexeme). IsStop atoms xs BadForm) e h)
-text_stop atoms text ts e good UnknownAtom h = (good, subst (λ (xs : List Lexeme). IsStop atoms xs UnknownAtom) e h)
-text_stop atoms text ts e good TooDeep h = (good, subst (λ (xs : List Lexeme). IsStop atoms xs TooDeep) e h)
-text_stop atoms text ts e good NoMemory h = tt
 
 pub returns-in-Some-clause-nodes : goal.returns-in-Some-clause-nodes
 returns-in-Some-clause-nodes c =

@@ -27,8 +27,8 @@ returns-then-has_past-clause-stop c =
     ∙ ap (list_any (is_past (length atoms))) (c.deref-2.ensures.value ∙ c.in_ok-symbols.ensures) ∙ past_unknown atoms ts in
     (form.0, form.1, sym past)
 
-pub returns-then-depth-gt128-clause-stop : goal.returns-then-depth-gt128-clause-stop
-returns-then-depth-gt128-clause-stop c =
+pub returns-then-depth-gt-DEPTH_LIMIT-clause-stop : goal.returns-then-depth-gt-DEPTH_LIMIT-clause-stop
+returns-then-depth-gt-DEPTH_LIMIT-clause-stop c =
     let atoms = c.args.atoms.now in
     let ts = map lexeme_of c.args.tokens.now in
     let symbols = c.deref.ensures.value ∙ c.in_ok-symbols.ensures in
@@ -36,10 +36,10 @@ returns-then-depth-gt128-clause-stop c =
     let form = form_of (symbols_of atoms ts) c.in-Some.depth (sym c.in-Some.is ∙ found) in
     let past = c.if-has_past.ensures ∙ ap (λ n. list_any (is_past n) c.deref-2.result.now) c.len.ensures.number
     ∙ ap (list_any (is_past (length atoms))) (c.deref-2.ensures.value ∙ c.in_ok-symbols.ensures) ∙ past_unknown atoms ts in
-    (form.0, form.1, sym past, inl (omega (arith, form.2, c.if-depth-gt128.true)))
+    (form.0, form.1, sym past, inl (omega (arith, form.2, c.if-depth-gt-DEPTH_LIMIT.true)))
 
-pub returns-then-most_open-gt128-clause-stop : goal.returns-then-most_open-gt128-clause-stop
-returns-then-most_open-gt128-clause-stop c =
+pub returns-then-most_open-gt-OPEN_LIMIT-clause-stop : goal.returns-then-most_open-gt-OPEN_LIMIT-clause-stop
+returns-then-most_open-gt-OPEN_LIMIT-clause-stop c =
     let atoms = c.args.atoms.now in
     let ts = map lexeme_of c.args.tokens.now in
     let symbols = c.deref.ensures.value ∙ c.in_ok-symbols.ensures in
@@ -47,7 +47,7 @@ returns-then-most_open-gt128-clause-stop c =
     let form = form_of (symbols_of atoms ts) c.in-Some.depth (sym c.in-Some.is ∙ found) in
     let past = c.if-has_past.ensures ∙ ap (λ n. list_any (is_past n) c.deref-2.result.now) c.len.ensures.number
     ∙ ap (list_any (is_past (length atoms))) (c.deref-2.ensures.value ∙ c.in_ok-symbols.ensures) ∙ past_unknown atoms ts in
-    (form.0, form.1, sym past, inr (omega (arith, c.most_open.ensures, c.if-most_open-gt128.true)))
+    (form.0, form.1, sym past, inr (omega (arith, c.most_open.ensures, c.if-most_open-gt-OPEN_LIMIT.true)))
 
 pub unreachable-requires : goal.unreachable-requires
 unreachable-requires c =
@@ -73,8 +73,8 @@ returns-clause-read c =
     subst (IsRead atoms ts) same (record {
       spelled = form.1;
       known = sym past;
-      depth = omega (arith, form.2, c.if-depth-gt128.false);
-      brackets = omega (arith, c.most_open.ensures, c.if-most_open-gt128.false);
+      depth = omega (arith, form.2, c.if-depth-gt-DEPTH_LIMIT.false);
+      brackets = omega (arith, c.most_open.ensures, c.if-most_open-gt-OPEN_LIMIT.false);
     })
 
 pub returns-clause-width : goal.returns-clause-width

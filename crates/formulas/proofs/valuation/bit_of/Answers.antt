@@ -1,5 +1,5 @@
 use Rattle.std.proofs.Common.{arith, ◌-◌}
-use Rattle.formulas.specs.WordLaws.{word_get}
+use Rattle.formulas.proofs.WordOrder.{word_get}
 use Rattle.formulas.proofs.valuation.bit_of.Goals as goal
 
 pub returns : goal.returns

@@ -1,7 +1,7 @@
 use Rattle.std.proofs.Common.{◌-◌, arith, sym}
 use Rattle.std.proofs.lemmas.Nat.{one_shl}
 use Rattle.std.proofs.Math.Nat.{pow-le-pow_right}
-use Rattle.formulas.specs.WordLaws.{word_set_true, word_set_false}
+use Rattle.formulas.proofs.WordOrder.{word_set_true, word_set_false}
 use Rattle.formulas.proofs.valuation.bits_with.Goals as goal
 
 pub overflow_sub-result : goal.overflow_sub-result

@@ -3,7 +3,7 @@ use Rattle.std.specs.List.{prefix_len}
 use Rattle.std.specs.Str.{IsAscii, IsUtf8}
 use Rattle.std.proofs.lemmas.Str.{IsUtf8-from_ascii}
 use Rattle.std.proofs.lemmas.List.Sums.{prefix_len-le-length}
-use Rattle.line_tokens.specs.Bytes.{is_word_byte}
+use Rattle.formulas.specs.Names.{is_word_byte}
 use Rattle.line_tokens.proofs.Words.{word_ascii}
 use Rattle.line_tokens.proofs.cut.split_word.Goals as goal
 

@@ -1,6 +1,7 @@
 use Rattle.std.proofs.Common.{map, ℕ, List, [], ◌∷◌, ◌++◌, sym, ap, subst, ◌∙◌}
 use Rattle.std.specs.List.{list_any, prefix_len}
-use Rattle.line_tokens.specs.Bytes.{is_word_byte, is_bad}
+use Rattle.formulas.specs.Names.{is_word_byte}
+use Rattle.line_tokens.specs.Bytes.{is_bad}
 use Rattle.line_tokens.specs.Lexemes.{lexeme_of, lexemes_of, word}
 use Rattle.line_tokens.specs.declared.token.Token.TheVariants.{Word}
 use Rattle.line_tokens.specs.Cuts.{BeginsWith}

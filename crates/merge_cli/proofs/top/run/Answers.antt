@@ -1,17 +1,17 @@
 use Rattle.std.proofs.Common.{inl, inr}
 use Rattle.merge_cli.proofs.Laws.{no_stop, refused_exact, too_long_exact, answered_at_end}
-use Rattle.merge_cli.proofs.Told.{told_row, row_merged, row_lacking, row_spelled, row_not_built, row_refused, row_refused_only}
+use Rattle.merge_cli.proofs.Told.{told_row, row_merged, row_lacking, row_lacks, row_lacking_not_merged, row_spelled, row_not_built, row_refused, row_refused_only}
 use Rattle.merge_cli.proofs.top.run.Goals as goal
 
 pub returns-in-Ok-send_all-clause-read_fault : goal.returns-in-Ok-send_all-clause-read_fault
-returns-in-Ok-send_all-clause-read_fault g c = λ e. absurd ((no_stop _ _ _ _ _ _ c.in-Ok.ensures.ok.answers).0 e)
+returns-in-Ok-send_all-clause-read_fault g c = λ e. absurd ((no_stop _ _ _ _ _ c.in-Ok.ensures.ok.answers).0 e)
 
 pub returns-in-Ok-send_all-clause-write_fault : goal.returns-in-Ok-send_all-clause-write_fault
-returns-in-Ok-send_all-clause-write_fault g c = λ e. absurd ((no_stop _ _ _ _ _ _ c.in-Ok.ensures.ok.answers).1 e)
+returns-in-Ok-send_all-clause-write_fault g c = λ e. absurd ((no_stop _ _ _ _ _ c.in-Ok.ensures.ok.answers).1 e)
 
 pub returns-in-Ok-send_all-clause-stopped : goal.returns-in-Ok-send_all-clause-stopped
 returns-in-Ok-send_all-clause-stopped g c =
-    let apart = no_stop _ _ _ _ _ _ c.in-Ok.ensures.ok.answers in
+    let apart = no_stop _ _ _ _ _ c.in-Ok.ensures.ok.answers in
     λ e. elim e [ inl four ↦ absurd (apart.0 four) | inr six ↦ absurd (apart.2 six) ]
 
 pub returns-in-Ok-send_all-clause-refused_words : goal.returns-in-Ok-send_all-clause-refused_words
@@ -23,30 +23,43 @@ returns-in-Ok-send_all-clause-too_long g c = λ four five six. too_long_exact _ 
 pub returns-in-Ok-send_all-clause-merged : goal.returns-in-Ok-send_all-clause-merged
 returns-in-Ok-send_all-clause-merged g c =
     λ bytes d a told of problem spelled status.
-    row_merged d a _ _ bytes _ _ problem (told_row _ _ _ _ _ _ _ c.in-Ok.ensures.ok bytes d a told of) spelled status
+    row_merged d a _ bytes _ _ problem (told_row _ _ _ _ _ _ _ c.in-Ok.ensures.ok bytes d a told of) spelled status
 
 pub returns-in-Ok-send_all-clause-lacks_model : goal.returns-in-Ok-send_all-clause-lacks_model
 returns-in-Ok-send_all-clause-lacks_model g c =
     λ bytes d a told of problem spelled status.
-    row_lacking d a _ _ bytes _ _ problem (told_row _ _ _ _ _ _ _ c.in-Ok.ensures.ok bytes d a told of) spelled status
+    row_lacking d a _ bytes _ _ problem (told_row _ _ _ _ _ _ _ c.in-Ok.ensures.ok bytes d a told of) spelled status
+
+pub returns-in-Ok-send_all-clause-lacking : goal.returns-in-Ok-send_all-clause-lacking
+returns-in-Ok-send_all-clause-lacking g c =
+    λ bytes d a told of problem spelled status.
+    row_lacks d a _ bytes _ _ problem (told_row _ _ _ _ _ _ _ c.in-Ok.ensures.ok bytes d a told of) spelled status
+
+pub returns-in-Ok-send_all-clause-lacking_not_merged : goal.returns-in-Ok-send_all-clause-lacking_not_merged
+returns-in-Ok-send_all-clause-lacking_not_merged g c =
+    λ bytes d a told of problem spelled lacks.
+    row_lacking_not_merged d a _ bytes _ _ problem (told_row _ _ _ _ _ _ _ c.in-Ok.ensures.ok bytes d a told of) spelled lacks
 
 pub returns-in-Ok-send_all-clause-spelled : goal.returns-in-Ok-send_all-clause-spelled
 returns-in-Ok-send_all-clause-spelled g c =
     λ bytes d a told of problem spelled few four five six.
-    row_spelled d a _ _ bytes _ _ problem (told_row _ _ _ _ _ _ _ c.in-Ok.ensures.ok bytes d a told of) spelled few
+    row_spelled d a _ bytes _ _ problem (told_row _ _ _ _ _ _ _ c.in-Ok.ensures.ok bytes d a told of) spelled few
 
 pub returns-in-Ok-send_all-clause-not_built_only : goal.returns-in-Ok-send_all-clause-not_built_only
 returns-in-Ok-send_all-clause-not_built_only g c =
-    λ bytes d a told of nine. row_not_built d a _ _ bytes _ _ (told_row _ _ _ _ _ _ _ c.in-Ok.ensures.ok bytes d a told of) nine
+    λ bytes d a told of nine. row_not_built d a _ bytes _ _ (told_row _ _ _ _ _ _ _ c.in-Ok.ensures.ok bytes d a told of) nine
 
 pub returns-in-Ok-send_all-clause-refused : goal.returns-in-Ok-send_all-clause-refused
 returns-in-Ok-send_all-clause-refused g c =
     λ bytes d a told of fault first few four five six.
-    row_refused d a _ _ bytes _ _ fault (told_row _ _ _ _ _ _ _ c.in-Ok.ensures.ok bytes d a told of) first few
+    row_refused d a _ bytes _ _ fault (told_row _ _ _ _ _ _ _ c.in-Ok.ensures.ok bytes d a told of) first few
 
 pub returns-in-Ok-send_all-clause-refused_only : goal.returns-in-Ok-send_all-clause-refused_only
 returns-in-Ok-send_all-clause-refused_only g c =
-    λ bytes d a told of one few. row_refused_only d a _ _ bytes _ _ (told_row _ _ _ _ _ _ _ c.in-Ok.ensures.ok bytes d a told of) one few
+    λ bytes d a told of one few. row_refused_only d a _ bytes _ _ (told_row _ _ _ _ _ _ _ c.in-Ok.ensures.ok bytes d a told of) one few
 
 pub returns-in-Ok-send_all-clause-at_end : goal.returns-in-Ok-send_all-clause-at_end
-returns-in-Ok-send_all-clause-at_end g c = λ few two four five six. answered_at_end _ _ _ _ _ _ _ c.in-Ok.ensures.ok few two
+returns-in-Ok-send_all-clause-at_end g c = λ asks short four six. answered_at_end _ _ _ _ _ _ _ c.in-Ok.ensures.ok asks short
+
+pub returns-in-Err-clause-at_end : goal.returns-in-Err-clause-at_end
+returns-in-Err-clause-at_end g c = λ asks short four six. answered_at_end _ _ _ _ _ _ _ c.in-Ok.ensures.ok asks short

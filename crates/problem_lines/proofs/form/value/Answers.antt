@@ -1,5 +1,5 @@
 use Rattle.std.proofs.Common.{◌+◌, ◌-◌, ◌*◌, min, drop, drop-cons, add-one, suc, slice_index, sym, ap, ◌∙◌, arith}
-use Rattle.problem_lines.specs.Numerals.{value_after}
+use Rattle.problem_lines.specs.Numerals.{times_cap, value_after}
 use Rattle.problem_lines.proofs.Digits.{value_step}
 use Rattle.problem_lines.proofs.form.value.Goals as goal
 
@@ -11,6 +11,6 @@ loop-byte-preserved c =
     let next = drop-cons items index 0 c.loop-byte-test.true in
     let digit = c.with_digit-number.ensures.number in (
       omega (arith, digit),
-      ap (λ n. min (value_after n (drop (index + 1) items)) 33) digit ∙ ap (λ n. min (value_after (min (number * 10 + (slice_index items index - 48)) 33) (drop n items)) 33) (add-one index)
-          ∙ value_step number (slice_index items index) (drop (suc index) items) ∙ ap (λ w. min (value_after number w) 33) (sym next) ∙ c.loop-byte.invariant.1,
+      ap (λ n. min (value_after n (drop (index + 1) items)) times_cap) digit ∙ ap (λ n. min (value_after (min (number * 10 + (slice_index items index - 48)) times_cap) (drop n items)) times_cap) (add-one index)
+          ∙ value_step number (slice_index items index) (drop (suc index) items) ∙ ap (λ w. min (value_after number w) times_cap) (sym next) ∙ c.loop-byte.invariant.1,
     )

@@ -12,8 +12,8 @@ returns-then-has c =
     let index = c.loop-token.token-index in
     let seen = c.loop-token.seen in
     let rest = words_of (map lexeme_of (drop (suc index) tokens)) in
-    let word = c.word_of-word.result.now in
-    let next = ap (λ ts. words_of (map lexeme_of ts)) (drop-cons tokens index Bang c.loop-token-test.true) ∙ ap (λ w. w ∷ rest) (sym c.word_of-word.ensures) in
+    let word = c.token_word-word.result.now in
+    let next = ap (λ ts. words_of (map lexeme_of ts)) (drop-cons tokens index Bang c.loop-token-test.true) ∙ ap (λ w. w ∷ rest) (sym c.token_word-word.ensures) in
     sym (distinct_not seen rest word (sym c.if-has.ensures)) ∙ ap (λ ws. are_distinct (seen ++ ws)) (sym next) ∙ ap are_distinct c.loop-token.invariant.0
 
 pub loop-token-preserved : goal.loop-token-preserved
@@ -22,8 +22,8 @@ loop-token-preserved c =
     let index = c.loop-token.token-index in
     let seen = c.loop-token.seen in
     let rest = words_of (map lexeme_of (drop (suc index) tokens)) in
-    let word = c.word_of-word.result.now in
-    let next = ap (λ ts. words_of (map lexeme_of ts)) (drop-cons tokens index Bang c.loop-token-test.true) ∙ ap (λ w. w ∷ rest) (sym c.word_of-word.ensures) in (
+    let word = c.token_word-word.result.now in
+    let next = ap (λ ts. words_of (map lexeme_of ts)) (drop-cons tokens index Bang c.loop-token-test.true) ∙ ap (λ w. w ∷ rest) (sym c.token_word-word.ensures) in (
       ap (λ n. c.push.new.self ++ words_of (map lexeme_of (drop n tokens))) (add-one index)
           ∙ ap (λ s. s ++ rest) c.in_ok-push.ensures ∙ append_assoc seen (word ∷ []) rest ∙ ap (λ ws. seen ++ ws) (sym next) ∙ c.loop-token.invariant.0,
       ap are_distinct c.in_ok-push.ensures ∙ distinct_more seen word c.loop-token.invariant.1 (sym c.if-has.ensures),

@@ -5,4 +5,4 @@ use Rattle.profile_text.proofs.writing.write_ask_lines.Goals as goal
 
 pub loop-ask-preserved : goal.loop-ask-preserved
 loop-ask-preserved c =
-    lines_step (ask_line c.args.atoms.now) c.args.asks.now c.loop-ask.ask-index c.ask-item.result _ _ _ (grind arith) c.ask-item.is c.loop-ask.invariant c.in_ok-write_formula_line.ensures
+    lines_step (ask_line c.args.atoms.now) c.args.asks.now c.loop-ask.ask-index c.ask-item.result _ _ _ (grind arith) c.ask-item.is c.loop-ask.invariant c.in_ok-write_ask_line.ensures

@@ -3,7 +3,7 @@ use Rattle.clause_store.proofs.Grows.{grew_none}
 use Rattle.totalizer.specs.Counter.{AllVarsWithin}
 use Rattle.totalizer.proofs.Steps.{on_err}
 use Rattle.aggregators.specs.Levels.{top_of, leximax_due}
-use Rattle.aggregators.specs.Repeats.{some_repeats, length_repeats, sized_repeats, within_repeats}
+use Rattle.aggregators.specs.Repeats.{some_repeated, length_repeated, sized_repeated, within_repeated}
 use Rattle.aggregators.proofs.Steps.{top_first}
 use Rattle.aggregators.proofs.sorted.LeximaxLevelled.levels.Goals as goal
 
@@ -14,21 +14,21 @@ returns-in_err-parts-clause-err c =
 pub add_levels-requires-clause-some : goal.add_levels-requires-clause-some
 add_levels-requires-clause-some c =
     let items = c.deref.ensures.value ∙ c.in_ok-parts.ensures in
-    omega (arith, ap length items, some_repeats c.args.clauses.now.vars c.args.aways.now c.args.times.now c.requires.counters)
+    omega (arith, ap length items, some_repeated c.args.clauses.now.vars c.args.aways.now c.args.times.now c.requires.counters)
 
 pub add_levels-requires-clause-few : goal.add_levels-requires-clause-few
 add_levels-requires-clause-few c =
     let items = c.deref.ensures.value ∙ c.in_ok-parts.ensures in
-    omega (arith, ap length items, length_repeats c.args.times.now c.args.aways.now c.requires.counters.lengths, c.requires.counters.few)
+    omega (arith, ap length items, length_repeated c.args.times.now c.args.aways.now c.requires.counters.lengths, c.requires.counters.few)
 
 pub add_levels-requires-clause-sized : goal.add_levels-requires-clause-sized
 add_levels-requires-clause-sized c =
     let items = c.deref.ensures.value ∙ c.in_ok-parts.ensures in
     let top = top_first c.args.aways.now c.index-aways-0.result c.requires.counters.some c.index-aways-0.is ∙ sym c.len-top.ensures.len in
     subst (λ n. All (λ (part : List ℕ). length part ≡ n) c.deref.result.now) top
-    (subst (λ ps. All (λ (part : List ℕ). length part ≡ top_of c.args.aways.now) ps) (sym items) (sized_repeats (top_of c.args.aways.now) c.args.times.now c.args.aways.now c.requires.counters.sized))
+    (subst (λ ps. All (λ (part : List ℕ). length part ≡ top_of c.args.aways.now) ps) (sym items) (sized_repeated (top_of c.args.aways.now) c.args.times.now c.args.aways.now c.requires.counters.sized))
 
 pub add_levels-requires-clause-within : goal.add_levels-requires-clause-within
 add_levels-requires-clause-within c =
     let items = c.deref.ensures.value ∙ c.in_ok-parts.ensures in
-    subst (λ ps. AllVarsWithin c.args.clauses.now.vars ps) (sym items) (within_repeats c.args.clauses.now.vars c.args.times.now c.args.aways.now c.requires.counters.within)
+    subst (λ ps. AllVarsWithin c.args.clauses.now.vars ps) (sym items) (within_repeated c.args.clauses.now.vars c.args.times.now c.args.aways.now c.requires.counters.within)

@@ -1,4 +1,4 @@
-use Rattle.std.proofs.Common.{◌≡◌, ◌∙◌, ℕ, List, Some, ap, sym, subst, arith}
+use Rattle.std.proofs.Common.{◌≡◌, ◌∙◌, ◌<◌, ◌^◌, ℕ, List, length, Some, ap, sym, subst, arith}
 use Rattle.clause_store.specs.declared.lit.Lit.{Lit}
 use Rattle.derivation_log.specs.declared.step.Link.{Link}
 use Rattle.derivation_log.specs.declared.step.Step.{Step}
@@ -30,10 +30,11 @@ returns-clause-step c =
     ∙ ap (λ (x : Step). Some x) (copied c.index-row.result.now.kind c.index-row.result.now.first c.in_ok-clause.clause c.clause.result.now c.from_vec.result c.index-row.result.now.chain c.in_ok-clause.ensures chain)
 
 pub returns-clause-line : goal.returns-clause-line
-returns-clause-line c = λ follow few.
+returns-clause-line c = λ follow.
     let g : Log = c.args.self.now in
     let own : List (List Lit) = c.self.inside.known.list in
     let known : known_of g ≡ own = sym (ap known_of c.self.view_is) ∙ view_known own c.self.inside.main c.self.inside.rows.items c.self.invariant in
+    let few : length (known_of g) < 2 ^ 63 = omega (arith, ap length known, c.len.ensures.len, c.len.ensures.small) in
     let vars : c.self.inside.known.vars ≡ g.vars = ap (λ (x : Log). x.vars) c.self.view_is in
     let in_range : AreInRange g.vars (known_of g) = subst (λ (n : ℕ). AreInRange n (known_of g)) vars (subst (AreInRange c.self.inside.known.vars) (sym known) c.len.ensures.whole.in_range) in
     let s : Step = record { kind = c.index-row.result.now.kind; clause = c.in_ok-clause.clause; first = c.index-row.result.now.first; chain = c.from_vec.result } in

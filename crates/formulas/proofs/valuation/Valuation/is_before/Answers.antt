@@ -1,6 +1,6 @@
 use Rattle.std.proofs.Common.{ap, ◌∙◌}
 use Rattle.std.specs.Ordering.{is_lt}
-use Rattle.formulas.specs.WordLaws.{order_of_words}
+use Rattle.formulas.proofs.WordOrder.{order_of_words}
 use Rattle.formulas.proofs.valuation.Valuation.is_before.Goals as goal
 
 pub returns : goal.returns

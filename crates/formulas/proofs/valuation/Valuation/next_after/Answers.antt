@@ -1,4 +1,4 @@
-use Rattle.formulas.specs.WordLaws.{word_last, next_word_at}
+use Rattle.formulas.proofs.WordOrder.{word_last, next_word_at}
 use Rattle.formulas.proofs.valuation.Valuation.next_after.Goals as goal
 
 pub returns-in-None : goal.returns-in-None
