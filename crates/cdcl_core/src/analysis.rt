@@ -15,11 +15,14 @@ use edge::NoMemory;
 use std::alloc::Global;
 use watch_lists::{Propagator, Trail};
 
-// A clause with the resolutions that lead to it.
+/// A clause with the resolutions that lead to it.
 #[derive(Drop)]
 pub struct Lesson {
+    /// The clause that was made.
     pub clause: Clause,
+    /// The number of the clause where the links begin.
     pub first: u64,
+    /// The links from there to the clause.
     pub chain: Chain,
 }
 
@@ -54,7 +57,7 @@ fn count_at(lits: &[Lit], trail: &Trail) -> usize
     count
 }
 
-// The greatest level below the trail's level of the literals; 0 where the search starts over.
+/// The greatest level below the trail's level of the literals; 0 where the search starts over.
 pub fn back_level(lits: &[Lit], trail: &Trail, restart: bool) -> u32
     requires in_range { InRange trail.now.vars lits.now }
     requires is_false { AllByRecursion (IsFalseIn trail.now.entries) lits.now }
@@ -75,7 +78,7 @@ pub fn back_level(lits: &[Lit], trail: &Trail, restart: bool) -> u32
     best
 }
 
-// Resolves a false clause with reasons until one literal of the level is left.
+/// Resolves a false clause with reasons until one literal of the level is left.
 pub fn learn<P: Propagator>(
     alloc: Global,
     known: &ClauseList,
@@ -120,7 +123,7 @@ pub fn learn<P: Propagator>(
     })
 }
 
-// Resolves with all reasons, until only negations of assumptions are left.
+/// Resolves with all reasons, until only negations of assumptions are left.
 pub fn claim<P: Propagator>(
     alloc: Global,
     known: &ClauseList,

@@ -11,15 +11,20 @@ use edge::NoMemory;
 use std::alloc::Global;
 use watch_lists::Trail;
 
+/// What is to be decided.
 pub enum Choice {
+    /// An assumption that is false.
     Contrary(Lit),
+    /// An assumption without a value.
     Assume(Lit),
+    /// A literal without a value, where all assumptions are true.
     Free(Lit),
+    /// Every variable has a value.
     Full,
 }
 
-// A decision that is due: assumptions first, and then the variables in their order. All assumptions before the place
-// are true, and it moves on to the first that is not.
+/// A decision that is due: assumptions first, and then the variables in their order. All assumptions before the place
+/// are true, and it moves on to the first that is not.
 pub fn choose(assumptions: &[Lit], place: &mut usize, trail: &Trail, order: &mut Order) -> Choice
     requires in_range { InRange trail.now.vars assumptions.now }
     requires before { AreTrue place.old assumptions.now trail.now.entries }
@@ -75,7 +80,7 @@ fn first_free(trail: &Trail) -> Option<Lit>
     None
 }
 
-// The values of the variables.
+/// The values of the variables.
 pub fn values(alloc: Global, trail: &Trail) -> Result<Assignment, NoMemory>
     ensures { IfOk result (λ made. HasValues trail.now made) }
 {

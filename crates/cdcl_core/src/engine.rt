@@ -20,7 +20,7 @@ use edge::NoMemory;
 use std::alloc::Global;
 use watch_lists::{Propagator, Trail};
 
-// Propagates.
+/// Propagates.
 pub fn settle<P: Propagator>(
     log: &Derivations,
     trail: &mut Trail,
@@ -42,7 +42,7 @@ pub fn settle<P: Propagator>(
     propagator.propagate(log.known(), trail)
 }
 
-// Goes back to a level.
+/// Goes back to a level.
 pub fn retreat<P: Propagator>(
     log: &Derivations,
     trail: &mut Trail,
@@ -66,7 +66,7 @@ pub fn retreat<P: Propagator>(
     }
 }
 
-// Decides a literal, after propagation found no conflict.
+/// Decides a literal, after propagation found no conflict.
 pub fn open<P: Propagator>(log: &Derivations, trail: &mut Trail, propagator: &P, lit: Lit)
     requires ready { IsReady log.now (P.attached propagator.now) (P.followed propagator.now) (P.vars propagator.now) trail.old }
     requires complete { IsComplete (P.attached propagator.now) trail.old.entries }
@@ -84,7 +84,7 @@ pub fn open<P: Propagator>(log: &Derivations, trail: &mut Trail, propagator: &P,
     trail.decide(lit);
 }
 
-// Goes back, and appends and attaches a learned clause.
+/// Goes back, and appends and attaches a learned clause.
 pub fn keep<P: Propagator>(
     log: &mut Derivations,
     trail: &mut Trail,
@@ -118,7 +118,7 @@ pub fn keep<P: Propagator>(
     Ok(level)
 }
 
-// Appends a claimed step that refutes the assumptions.
+/// Appends a claimed step that refutes the assumptions.
 pub fn refute<P: Propagator>(
     alloc: Global,
     log: &mut Derivations,
@@ -145,13 +145,17 @@ pub fn refute<P: Propagator>(
     Ok(number)
 }
 
+/// Where deciding and propagating came to.
 pub enum Turn {
+    /// The clause of this number is false.
     Conflict(u64),
+    /// This assumption is false.
     Contrary(Lit),
+    /// Every variable has a value, and no clause is false.
     Full,
 }
 
-// Decides and propagates, until there is a conflict or a false assumption or nothing left to decide.
+/// Decides and propagates, until there is a conflict or a false assumption or nothing left to decide.
 pub fn descend<P: Propagator>(
     log: &Derivations,
     trail: &mut Trail,

@@ -50,7 +50,7 @@ fn refute_contrary<P: Propagator>(
     }
 }
 
-// Looks for an answer.
+/// Looks for an answer.
 pub fn search<P: Propagator>(
     alloc: Global,
     log: &mut Derivations,

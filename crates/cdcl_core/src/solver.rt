@@ -41,7 +41,7 @@ impl<P: Propagator + Drop> Model for Solver<P> {
 }
 
 impl<P: Propagator + Drop> Solver<P> {
-    /// A solver of the main clauses, with a log of no step.
+    /// A solver of the main clauses, with a log of no step; `NoMemory` for want of memory.
     pub fn new(alloc: Global, main: ClauseList) -> Result<Solver<P>, NoMemory>
         ensures { IfOk result (λ s. s ≡ record { log = record { main = main.list; vars = main.vars; steps = [] }; failed = false }) }
     {
