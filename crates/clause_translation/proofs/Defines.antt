@@ -1,8 +1,8 @@
 -- The clauses that are due for a formula define its value.
 use Rattle.std.proofs.Common.{◌≡◌, ℕ, zero, suc, ◌+◌, ◌<◌, ◌≤◌, Bool, true, false, not, ◌&&◌, ◌||◌, List, [], ◌∷◌, ◌++◌, length, refl, sym, ap, ◌∙◌, subst, arith}
-use Rattle.std.specs.Prelude.{map, if◌then◌else◌}
+use Rattle.std.specs.Prelude.{map}
 use Rattle.clause_store.specs.declared.lit.Lit.{Lit}
-use Rattle.clause_store.specs.Lits.{positive_lit, negated, IsWithin, InRange, AreInRange}
+use Rattle.clause_store.specs.Lits.{positive_lit, IsWithin, InRange, AreInRange}
 use Rattle.clause_store.specs.Truth.{Agree, Satisfies, lit_true}
 use Rattle.clause_store.specs.Extends.{Extends, Are, Always}
 use Rattle.clause_store.proofs.Truths.{and_left, and_right, all_true-append, lit_agree, lit_true-negated, within_more}
