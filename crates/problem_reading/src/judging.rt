@@ -11,6 +11,7 @@ ghost use Rattle.problem_reading.specs.Views.{draft_of};
 
 use crate::declarations::Declarations;
 use crate::formula::line_formula;
+use crate::limits::{AGENT_LIMIT, ASK_LIMIT, ATOM_LIMIT, NAME_LIMIT, NODE_LIMIT, TIMES_LIMIT};
 use crate::names::{any_declared, any_long, any_reserved, are_distinct, extended};
 use crate::said::Said;
 use crate::stop::{LineStop, TextKind};
@@ -27,7 +28,7 @@ fn is_over(tokens: &[Token], used: u64) -> bool
     requires few { used ≤ 4096 }
     ensures { result ≡ nat_lt 4096 (used + size_of (map lexeme_of tokens.now)) }
 {
-    node_count(tokens) as u64 > 4096 - used
+    node_count(tokens) as u64 > NODE_LIMIT - used
 }
 
 /// The constraint that a line's tokens spell, or the line's least fault.
@@ -51,7 +52,7 @@ pub fn judge_query(declared: &Declarations, tokens: &[Token]) -> Result<Formula,
     ensures said { IfOk result (λ f. IsSaid (draft_of declared.now) (query (map lexeme_of tokens.now)) (Said.Query f)) }
     ensures stop { IfErr result (IsFormStop (draft_of declared.now) (query (map lexeme_of tokens.now))) }
 {
-    let over = declared.asks.len() >= 16
+    let over = declared.asks.len() >= ASK_LIMIT
         || is_over(tokens, declared.constraint_nodes + declared.other_nodes);
     line_formula(declared.alloc, tokens, &declared.atoms, false, false, over)
 }
@@ -73,7 +74,7 @@ fn is_too_often(used: u32, times: u32) -> bool
     requires capped { times ≤ 33 }
     ensures { (n : ℕ) → times ≡ min n 33 → result ≡ nat_lt 32 (used + n) }
 {
-    used + times > 32
+    used + times > TIMES_LIMIT
 }
 
 /// Whether one more agent passes a limit.
@@ -83,7 +84,7 @@ fn believes_too_much(declared: &Declarations, name: &str, times: u32, tokens: &[
 {
     let over = is_over(tokens, declared.constraint_nodes + declared.other_nodes);
     let often = is_too_often(declared.times, times);
-    declared.agents.len() >= 32 || name.len() > 64 || often || over
+    declared.agents.len() >= AGENT_LIMIT || name.len() > NAME_LIMIT || often || over
 }
 
 /// The bytes of a name.
@@ -134,7 +135,7 @@ pub fn judge_names(declared: &Declarations, tokens: &[Token]) -> Result<Atoms, L
     if any_declared(&declared.atoms, tokens) {
         return Err(LineStop::Fault(TextKind::Twice));
     }
-    if tokens.len() > (32 - declared.atoms.len()) as usize {
+    if tokens.len() > (ATOM_LIMIT - declared.atoms.len()) as usize {
         return Err(LineStop::Fault(TextKind::TooMany));
     }
     if any_long(tokens) {

@@ -5,6 +5,7 @@ mod declarations;
 mod ending;
 mod formula;
 mod judging;
+mod limits;
 mod lines;
 mod names;
 mod past;

@@ -5,6 +5,7 @@ ghost use Rattle.formulas.specs.Names.{is_reserved, are_distinct, are_names};
 ghost use Rattle.line_tokens.specs.Lexemes.{lexeme_of};
 ghost use Rattle.problem_lines.specs.Forms.{words_of};
 
+use crate::limits::NAME_LIMIT;
 use edge::NoMemory;
 use formulas::{Atoms, is_reserved};
 use indexmap::IndexSet;
@@ -89,7 +90,7 @@ pub fn any_long(tokens: &[Token]) -> bool
     ensures { result ≡ list_any (λ name. nat_lt 64 (length name)) (words_of (map lexeme_of tokens.now)) }
 {
     for token in tokens {
-        if token_word(*token).len() > 64 {
+        if token_word(*token).len() > NAME_LIMIT {
             return true;
         }
     }
