@@ -1,6 +1,10 @@
 -- What a run answers to its words and to what it read, where nothing stops it.
-use Rattle.std.specs.Prelude.{◌≡◌, ℕ, List, [], codes, Option}
+use Rattle.std.specs.Prelude.{◌≡◌, ℕ, List, [], codes, Option, Some}
 use Rattle.edge.specs.Streams.{Gave}
+use Rattle.merge_model.specs.declared.operator.DistanceName.{DistanceName}
+use Rattle.merge_model.specs.declared.operator.AggregatorName.{AggregatorName}
+use Rattle.merge_model.specs.declared.problem.Problem.{Problem}
+use Rattle.problem_reading.specs.Spelling.{Spelled}
 use Rattle.merge_cli.specs.declared.forms.Form.{Form}
 use Rattle.merge_cli.specs.declared.forms.Form.TheVariants.{Merge}
 use Rattle.merge_cli.specs.Forms.{IsFormOf, IsNoForm}
@@ -44,3 +48,12 @@ pub record Answered (table : Table) (before now : Option (List ℕ)) (room_befor
   pub read : List ℕ
   pub gave : Gave before now room_before room_now read
   pub answers : table now read status text
+
+-- the source tells these bytes, and the words ask to merge what they spell
+abbrev pub AsksMerge : Option (List ℕ) → List (List ℕ) → List ℕ → DistanceName → AggregatorName → Type 0
+AsksMerge left words bytes distance aggregator = (left ≡ Some bytes) × IsFormOf words (Merge distance aggregator)
+
+-- the source tells bytes that spell this problem, and the words ask to merge it
+abbrev pub AsksProblem : Option (List ℕ) → List (List ℕ) → DistanceName → AggregatorName → Problem → Type 0
+AsksProblem left words distance aggregator problem =
+    (bytes : List ℕ) × AsksMerge left words bytes distance aggregator × Spelled bytes problem

@@ -3,8 +3,8 @@ ghost use Rattle.std.specs.Prelude.{Option, Some, IfOk, OnErr, IsErrOf};
 ghost use Rattle.std.specs.Io.KnownBytes.{Appends, IsAtEnd};
 ghost use Rattle.edge.specs.Faults.{Rose};
 ghost use Rattle.edge.specs.Streams.{Gave};
-ghost use Rattle.merge_cli.specs.Forms.{IsFormOf, IsNoForm};
-ghost use Rattle.merge_cli.specs.Answers.{Answers, Answered, CommandAnswers, Reads, IsReading, IsUnread, IsProblemCommand};
+ghost use Rattle.merge_cli.specs.Forms.{IsNoForm};
+ghost use Rattle.merge_cli.specs.Answers.{Answers, Answered, CommandAnswers, Reads, IsReading, IsUnread, IsProblemCommand, AsksMerge, AsksProblem};
 ghost use Rattle.merge_cli.specs.Merge.{most_bytes, most_atoms, IsNotBuilt, ReportsMerge, ReportsLack};
 ghost use Rattle.merge_cli.specs.Refusals.{refusal_text};
 ghost use Rattle.merge_model.specs.declared.problem.Problem.{Problem};
@@ -96,38 +96,34 @@ pub fn run<S: Source, K: Sink>(
         ↔ (IsProblemCommand words.now × (most_bytes < S.room source.old - S.room source.new)) }
 
     // Where the source tells its bytes, the answer is that to these bytes.
-    ensures merged { (bytes : List ℕ) (distance : DistanceName) (aggregator : AggregatorName)
-        → S.left source.old ≡ Some bytes → IsFormOf words.now (Form.Merge distance aggregator)
-        → (problem : Problem) → Spelled bytes problem → result.status ≡ 0
+    ensures merged { (distance : DistanceName) (aggregator : AggregatorName) (problem : Problem)
+        → AsksProblem (S.left source.old) words.now distance aggregator problem → result.status ≡ 0
         → ReportsMerge distance aggregator problem result.text.items }
-    ensures lacks_model { (bytes : List ℕ) (distance : DistanceName) (aggregator : AggregatorName)
-        → S.left source.old ≡ Some bytes → IsFormOf words.now (Form.Merge distance aggregator)
-        → (problem : Problem) → Spelled bytes problem → result.status ≡ 8
+    ensures lacks_model { (distance : DistanceName) (aggregator : AggregatorName) (problem : Problem)
+        → AsksProblem (S.left source.old) words.now distance aggregator problem → result.status ≡ 8
         → ReportsLack distance aggregator problem result.text.items }
-    ensures lacking { (bytes : List ℕ) (distance : DistanceName) (aggregator : AggregatorName)
-        → S.left source.old ≡ Some bytes → IsFormOf words.now (Form.Merge distance aggregator)
-        → (problem : Problem) → Spelled bytes problem → result.status ≡ 8
+    ensures lacking { (distance : DistanceName) (aggregator : AggregatorName) (problem : Problem)
+        → AsksProblem (S.left source.old) words.now distance aggregator problem → result.status ≡ 8
         → LacksModel (profile_of problem) }
-    ensures lacking_not_merged { (bytes : List ℕ) (distance : DistanceName) (aggregator : AggregatorName)
-        → S.left source.old ≡ Some bytes → IsFormOf words.now (Form.Merge distance aggregator)
-        → (problem : Problem) → Spelled bytes problem → LacksModel (profile_of problem)
+    ensures lacking_not_merged { (distance : DistanceName) (aggregator : AggregatorName) (problem : Problem)
+        → AsksProblem (S.left source.old) words.now distance aggregator problem → LacksModel (profile_of problem)
         → result.status ≢ 0 }
     ensures spelled { (bytes : List ℕ) (distance : DistanceName) (aggregator : AggregatorName)
-        → S.left source.old ≡ Some bytes → IsFormOf words.now (Form.Merge distance aggregator)
+        → AsksMerge (S.left source.old) words.now bytes distance aggregator
         → (problem : Problem) → Spelled bytes problem → length bytes ≤ most_bytes
         → result.status ≢ 4 → result.status ≢ 5 → result.status ≢ 6
         → ((length problem.atoms ≤ most_atoms) × ((result.status ≡ 0) ⊎ (result.status ≡ 8)))
         ⊎ ((most_atoms < length problem.atoms) × (result.status ≡ 9)) }
     ensures not_built_only { (bytes : List ℕ) (distance : DistanceName) (aggregator : AggregatorName)
-        → S.left source.old ≡ Some bytes → IsFormOf words.now (Form.Merge distance aggregator)
+        → AsksMerge (S.left source.old) words.now bytes distance aggregator
         → result.status ≡ 9 → (length bytes ≤ most_bytes) × IsNotBuilt bytes }
     ensures refused { (bytes : List ℕ) (distance : DistanceName) (aggregator : AggregatorName)
-        → S.left source.old ≡ Some bytes → IsFormOf words.now (Form.Merge distance aggregator)
+        → AsksMerge (S.left source.old) words.now bytes distance aggregator
         → (fault : TextFault) → FirstFault bytes fault → length bytes ≤ most_bytes
         → result.status ≢ 4 → result.status ≢ 5 → result.status ≢ 6
         → (result.status ≡ 1) × (result.text.items ≡ refusal_text fault) }
     ensures refused_only { (bytes : List ℕ) (distance : DistanceName) (aggregator : AggregatorName)
-        → S.left source.old ≡ Some bytes → IsFormOf words.now (Form.Merge distance aggregator)
+        → AsksMerge (S.left source.old) words.now bytes distance aggregator
         → result.status ≡ 1 → length bytes ≤ most_bytes
         → (fault : TextFault) × FirstFault bytes fault × (result.text.items ≡ refusal_text fault) }
 

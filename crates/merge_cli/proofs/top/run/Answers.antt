@@ -22,41 +22,41 @@ returns-in-Ok-send_all-clause-too_long g c = λ four five six. too_long_exact _ 
 
 pub returns-in-Ok-send_all-clause-merged : goal.returns-in-Ok-send_all-clause-merged
 returns-in-Ok-send_all-clause-merged g c =
-    λ bytes d a told of problem spelled status.
-    row_merged d a _ bytes _ _ problem (told_row _ _ _ _ _ _ _ c.in-Ok.ensures.ok bytes d a told of) spelled status
+    λ d a problem asks status.
+    row_merged d a _ asks.0 _ _ problem (told_row _ _ _ _ _ _ _ c.in-Ok.ensures.ok asks.0 d a asks.1.0 asks.1.1) asks.2 status
 
 pub returns-in-Ok-send_all-clause-lacks_model : goal.returns-in-Ok-send_all-clause-lacks_model
 returns-in-Ok-send_all-clause-lacks_model g c =
-    λ bytes d a told of problem spelled status.
-    row_lacking d a _ bytes _ _ problem (told_row _ _ _ _ _ _ _ c.in-Ok.ensures.ok bytes d a told of) spelled status
+    λ d a problem asks status.
+    row_lacking d a _ asks.0 _ _ problem (told_row _ _ _ _ _ _ _ c.in-Ok.ensures.ok asks.0 d a asks.1.0 asks.1.1) asks.2 status
 
 pub returns-in-Ok-send_all-clause-lacking : goal.returns-in-Ok-send_all-clause-lacking
 returns-in-Ok-send_all-clause-lacking g c =
-    λ bytes d a told of problem spelled status.
-    row_lacks d a _ bytes _ _ problem (told_row _ _ _ _ _ _ _ c.in-Ok.ensures.ok bytes d a told of) spelled status
+    λ d a problem asks status.
+    row_lacks d a _ asks.0 _ _ problem (told_row _ _ _ _ _ _ _ c.in-Ok.ensures.ok asks.0 d a asks.1.0 asks.1.1) asks.2 status
 
 pub returns-in-Ok-send_all-clause-lacking_not_merged : goal.returns-in-Ok-send_all-clause-lacking_not_merged
 returns-in-Ok-send_all-clause-lacking_not_merged g c =
-    λ bytes d a told of problem spelled lacks.
-    row_lacking_not_merged d a _ bytes _ _ problem (told_row _ _ _ _ _ _ _ c.in-Ok.ensures.ok bytes d a told of) spelled lacks
+    λ d a problem asks lacks.
+    row_lacking_not_merged d a _ asks.0 _ _ problem (told_row _ _ _ _ _ _ _ c.in-Ok.ensures.ok asks.0 d a asks.1.0 asks.1.1) asks.2 lacks
 
 pub returns-in-Ok-send_all-clause-spelled : goal.returns-in-Ok-send_all-clause-spelled
 returns-in-Ok-send_all-clause-spelled g c =
-    λ bytes d a told of problem spelled few four five six.
-    row_spelled d a _ bytes _ _ problem (told_row _ _ _ _ _ _ _ c.in-Ok.ensures.ok bytes d a told of) spelled few
+    λ bytes d a asks problem spelled few four five six.
+    row_spelled d a _ bytes _ _ problem (told_row _ _ _ _ _ _ _ c.in-Ok.ensures.ok bytes d a asks.0 asks.1) spelled few
 
 pub returns-in-Ok-send_all-clause-not_built_only : goal.returns-in-Ok-send_all-clause-not_built_only
 returns-in-Ok-send_all-clause-not_built_only g c =
-    λ bytes d a told of nine. row_not_built d a _ bytes _ _ (told_row _ _ _ _ _ _ _ c.in-Ok.ensures.ok bytes d a told of) nine
+    λ bytes d a asks nine. row_not_built d a _ bytes _ _ (told_row _ _ _ _ _ _ _ c.in-Ok.ensures.ok bytes d a asks.0 asks.1) nine
 
 pub returns-in-Ok-send_all-clause-refused : goal.returns-in-Ok-send_all-clause-refused
 returns-in-Ok-send_all-clause-refused g c =
-    λ bytes d a told of fault first few four five six.
-    row_refused d a _ bytes _ _ fault (told_row _ _ _ _ _ _ _ c.in-Ok.ensures.ok bytes d a told of) first few
+    λ bytes d a asks fault first few four five six.
+    row_refused d a _ bytes _ _ fault (told_row _ _ _ _ _ _ _ c.in-Ok.ensures.ok bytes d a asks.0 asks.1) first few
 
 pub returns-in-Ok-send_all-clause-refused_only : goal.returns-in-Ok-send_all-clause-refused_only
 returns-in-Ok-send_all-clause-refused_only g c =
-    λ bytes d a told of one few. row_refused_only d a _ bytes _ _ (told_row _ _ _ _ _ _ _ c.in-Ok.ensures.ok bytes d a told of) one few
+    λ bytes d a asks one few. row_refused_only d a _ bytes _ _ (told_row _ _ _ _ _ _ _ c.in-Ok.ensures.ok bytes d a asks.0 asks.1) one few
 
 pub returns-in-Ok-send_all-clause-at_end : goal.returns-in-Ok-send_all-clause-at_end
 returns-in-Ok-send_all-clause-at_end g c = λ asks short four six. answered_at_end _ _ _ _ _ _ _ c.in-Ok.ensures.ok asks short
