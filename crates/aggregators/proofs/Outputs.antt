@@ -4,11 +4,11 @@ use Rattle.std.specs.Prelude.{slice_index, Contains, ◌⊎◌}
 use Rattle.std.proofs.lemmas.Grind.{get_or_default_zero}
 use Rattle.std.proofs.lemmas.List.Elements.{All-get_or}
 use Rattle.totalizer.specs.Counter.{AreVarsWithin, AreDistinct}
-use Rattle.totalizer.proofs.Distinct.{AreApart, distinct_append}
+use Rattle.totalizer.proofs.Distinct.{ShareNone, distinct_append}
 use Rattle.aggregators.specs.Levels.{AreFreshOrOf}
 
 -- distinct variables up to v, none of them an output of a counter, are distinct together with the outputs of levels
-pub distinct_before : (v : ℕ) (xs given outputs : List ℕ) → AreVarsWithin v xs → AreDistinct xs → AreApart xs given → AreFreshOrOf v given outputs → AreDistinct outputs → AreDistinct (xs ++ outputs)
+pub distinct_before : (v : ℕ) (xs given outputs : List ℕ) → AreVarsWithin v xs → AreDistinct xs → ShareNone xs given → AreFreshOrOf v given outputs → AreDistinct outputs → AreDistinct (xs ++ outputs)
 distinct_before v xs given outputs within d apart origin e =
     distinct_append xs outputs d e (λ j k hj hk same.
     elim (All-get_or (λ x. (v < x) ⊎ Contains given x) outputs k 0 hk origin) [

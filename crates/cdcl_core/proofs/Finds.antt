@@ -16,8 +16,9 @@ use Rattle.solver_laws.specs.Ready.{IsFalseIn, IsReason, IsJustified, DecidesOnl
 use Rattle.std.specs.List.{AllByRecursion}
 use Rattle.solver_laws.proofs.Rooms.{or_left, or_right, room_cons, room_false, each_map, same_lit-is, contains_has}
 use Rattle.solver_laws.proofs.Steps.{drop_false}
+use Rattle.solver_laws.proofs.Turns.{all_map}
+use Rattle.watch_lists.proofs.Traces.{entry_of-var}
 use Rattle.watch_lists.proofs.Scans.{contains_all}
-use Rattle.std.specs.List.{AllByRecursion}
 use Rattle.clause_store.specs.Truth.{clause_true, lit_true, values_of, Satisfies}
 use Rattle.clause_store.proofs.Truths.{each_satisfies}
 use Rattle.clause_store.proofs.Each.{each_index, each_of_index}
@@ -85,11 +86,6 @@ all_front P [] ys h k d lt = absurd (omega arith)
 all_front P (x ∷ xs) ys h zero d lt = h 0 d (omega arith)
 all_front P (x ∷ xs) ys h (suc k) d lt = all_front P xs ys (λ j e l. h (suc j) e (omega arith)) k d (omega arith)
 
-all_map : (P : List Lit → Type 0) (w : List Attached) → All (λ (a : Attached). P a.clause) w → All P (map (λ (a : Attached). a.clause) w)
-all_map P [] h k d lt = absurd (omega arith)
-all_map P (a ∷ w) h zero d lt = h 0 a (omega arith)
-all_map P (a ∷ w) h (suc k) d lt = all_map P w (λ j e l. h (suc j) e (omega arith)) k d (omega arith)
-
 pub main_found : (t : Trace) (values : List Bool) (main learned : List (List Lit)) (w : List Attached) → HasValues t values → ((v : ℕ) → 1 ≤ v → v ≤ t.vars → value_of t.entries (record { var = v; positive = false }) ≢ None) → AreInRange t.vars main → map (λ (a : Attached). a.clause) w ≡ main ++ learned → IsComplete w t.entries → Satisfies (values_of values) main
 main_found t values main learned w h full r e c =
     each_satisfies (values_of values) main (each_of_index (λ (x : List Lit). clause_true (values_of values) x ≡ true) main (λ k d lt.
@@ -149,14 +145,6 @@ pub record Against (es : List Entry) (l : Lit) : Type 0 where
   pub at : entry_of es l.var ≡ Some entry
   pub lit : entry.lit ≡ negated l
 
-var_of : (es : List Entry) (v : ℕ) (e : Entry) → entry_of es v ≡ Some e → e.lit.var ≡ v
-var_of [] v e h = absurd (cc)
-var_of (x ∷ xs) v e h =
-    elim (cases_eq x.lit.var v) [
-      | inl g ↦ (let t : eqb x.lit.var v ≡ true = grind arith in let h' = rw t at h in let q : x ≡ e = cc in sym (ap (λ (y : Entry). y.lit.var) q) ∙ g)
-      | inr g ↦ (let t : eqb x.lit.var v ≡ false = grind arith in var_of xs v e (rw t at h))
-    ]
-
 pub against : (es : List Entry) (l : Lit) → value_of es l ≡ Some false → Against es l
 against es l h = go (entry_of es l.var) refl h
   where
@@ -168,7 +156,7 @@ against es l h = go (entry_of es l.var) refl h
 
     go : (o : Option Entry) → entry_of es l.var ≡ o → under o l.positive ≡ Some false → Against es l
     go None q h = absurd (cc)
-    go (Some e) q h = record { entry = e; at = q; lit = flip e.lit.var l.var e.lit.positive l.positive (var_of es l.var e q) h }
+    go (Some e) q h = record { entry = e; at = q; lit = flip e.lit.var l.var e.lit.positive l.positive (entry_of-var es l.var e q) h }
 
 -- the reason of an entry anywhere in the trail
 pub reason_of_entry : (w : List Attached) (vars v : ℕ) (es : List Entry) (e : Entry) (n : ℕ) → IsJustified w es → AreApart vars es → entry_of es v ≡ Some e → e.reason ≡ Some n → (c : List Lit) × Contains w (record { number = n; clause = c }) × (has e.lit c ≡ true) × AllByRecursion (IsFalseIn es) (without e.lit c)

@@ -8,11 +8,8 @@ use Rattle.problem_reading.specs.Faults.{IsLineFault}
 use Rattle.problem_reading.specs.Saying.{Adds}
 use Rattle.problem_reading.specs.Spelling.{Declares, no_lines, one_more, IsProblemOf, IsEndFault, IsFirstLineFault, FirstFault, Spelled}
 use Rattle.problem_laws.specs.Sameness.{SameFault, SameProblem}
-use Rattle.problem_reading.proofs.OneDraft.{heads, snoc_parts, declares_once}
+use Rattle.problem_reading.proofs.OneDraft.{Line, heads, end_parts, declares_once}
 use Rattle.problem_laws.proofs.LineLaws.{one_fault, never_both}
-
-abbrev Line : Type 0
-Line = List ℕ
 
 last_of : (a : Line) (xs : List Line) → (ys : List Line) × (y : Line) × (a ∷ xs ≡ ys ++ y ∷ [])
 last_of a [] = ([], a, refl)
@@ -26,12 +23,12 @@ passes : {ls : List Line} {e : Draft} → Declares ls e → (before : List Line)
 passes no_lines [] line rest same = absurd (cc)
 passes no_lines (b ∷ before) line rest same = absurd (cc)
 passes (one_more {lines = ls} {d = d} x e h adds) before line [] same =
-    let parts = snoc_parts ls before x line same in
+    let parts = end_parts ls before x line same in
     (d, e, subst (λ (zs : List Line). Declares zs d) parts.0 h, subst (λ (z : Line). Adds d z e) parts.1 adds)
 passes (one_more {lines = ls} {d = d} x e h adds) before line (a ∷ rest) same =
     let end = last_of a rest in
     let all = same ∙ ap (λ zs. before ++ line ∷ zs) end.2 ∙ sym (append_assoc before (line ∷ end.0) (end.1 ∷ [])) in
-    passes h before line end.0 (snoc_parts ls (before ++ line ∷ end.0) x end.1 all).0
+    passes h before line end.0 (end_parts ls (before ++ line ∷ end.0) x end.1 all).0
 
 -- a line with a fault is among no lines that declare something
 no_fault_among : {ls : List Line} {e : Draft} → Declares ls e → (before rest : List Line) (line : Line) (d : Draft) (k : TextKind) → ls ≡ before ++ line ∷ rest →

@@ -1,10 +1,10 @@
 -- How far the lines of a text were read.
-use Rattle.std.proofs.Common.{◌≡◌, ℕ, ◌+◌, ◌≤◌, ◌<◌, Bool, true, false, not, ◌==◌, List, [], ◌∷◌, ◌++◌, length, take, drop, cond, if◌then◌else◌, append_assoc, append-nil, length-append, refl, ap, sym, ◌∙◌, inl, inr, arith, suc, zero}
+use Rattle.std.proofs.Common.{◌≡◌, ℕ, ◌+◌, ◌≤◌, ◌<◌, Bool, true, false, not, ◌==◌, List, [], ◌∷◌, ◌++◌, length, take, drop, cond, if◌then◌else◌, append_assoc, append-nil, length-append, refl, ap, sym, ◌∙◌, inl, arith, suc, zero}
 use Rattle.std.specs.List.{prefix_len}
 use Rattle.problem_lines.specs.Lines.{lines_of, with_byte}
 use Rattle.problem_reading.specs.declared.stop.TextStop.{TextStop}
 use Rattle.problem_reading.specs.declared.stop.TextStop.TheVariants.{Fault, NoMemory}
-use Rattle.problem_reading.specs.Lines.{StopsAfter, StopsAtEnd}
+use Rattle.problem_reading.specs.Lines.{StopsAfter}
 use Rattle.problem_reading.specs.Spelling.{StopsText}
 
 -- the bytes before the first line feed
@@ -59,10 +59,6 @@ stops_here bytes rest after line before (Fault fault) is cut h = inl (record {
 -- all lines were read
 pub all_read : (bytes rest : List ℕ) (before : List (List ℕ)) → IsReadTo bytes rest before → rest ≡ [] → before ≡ lines_of bytes
 all_read bytes rest before is e = sym (append-nil before) ∙ ap (λ r. before ++ lines_of r) (sym e) ∙ is.lines
-
-pub ends_here : (bytes : List ℕ) (stop : TextStop) → StopsAtEnd (lines_of bytes) stop → StopsText bytes stop
-ends_here bytes NoMemory h = tt
-ends_here bytes (Fault fault) h = inr h
 
 pub drop_suc : (n : ℕ) (xs : List ℕ) → drop (suc n) xs ≡ drop 1 (drop n xs)
 drop_suc zero xs = refl

@@ -2,6 +2,7 @@ ghost use Rattle.std.specs.Prelude.{◌≡◌, ◌+◌, ◌≤◌, ℕ, IfOk, If
 ghost use Rattle.std.specs.List.{list_all};
 ghost use Rattle.line_tokens.specs.Lexemes.{lexeme_of};
 ghost use Rattle.problem_lines.specs.Forms.{Form, condition, belief, query, declaration, is_name_token, words_of};
+ghost use Rattle.problem_lines.specs.Numerals.{times_cap};
 ghost use Rattle.problem_lines.specs.Views.{IsForm};
 ghost use Rattle.problem_reading.specs.Drafts.{size_of, believes_too_much};
 ghost use Rattle.problem_reading.specs.Faults.{is_agent};
@@ -68,19 +69,19 @@ fn is_agent(declared: &Declarations, name: &str) -> bool
 }
 
 /// Whether agents that count so often count too often together with one more, whose times are
-/// counted up to 33.
+/// counted up to one more than the most.
 fn is_too_often(used: u32, times: u32) -> bool
     requires few { used ≤ 32 }
-    requires capped { times ≤ 33 }
-    ensures { (n : ℕ) → times ≡ min n 33 → result ≡ nat_lt 32 (used + n) }
+    requires capped { times ≤ times_cap }
+    ensures { (n : ℕ) → times ≡ min n times_cap → result ≡ nat_lt 32 (used + n) }
 {
     used + times > TIMES_LIMIT
 }
 
 /// Whether one more agent passes a limit.
 fn believes_too_much(declared: &Declarations, name: &str, times: u32, tokens: &[Token]) -> bool
-    requires capped { times ≤ 33 }
-    ensures { (n : ℕ) → times ≡ min n 33 → result ≡ believes_too_much (draft_of declared.now) name.now n (map lexeme_of tokens.now) }
+    requires capped { times ≤ times_cap }
+    ensures { (n : ℕ) → times ≡ min n times_cap → result ≡ believes_too_much (draft_of declared.now) name.now n (map lexeme_of tokens.now) }
 {
     let over = is_over(tokens, declared.constraint_nodes + declared.other_nodes);
     let often = is_too_often(declared.times, times);
@@ -101,9 +102,9 @@ pub fn judge_belief(
     times: u32,
     tokens: &[Token],
 ) -> Result<Agent, LineStop>
-    requires capped { times ≤ 33 }
-    ensures said { (n : ℕ) → times ≡ min n 33 → IfOk result (λ agent. IsSaid (draft_of declared.now) (belief name.now n (map lexeme_of tokens.now)) (Said.Belief agent)) }
-    ensures stop { (n : ℕ) → times ≡ min n 33 → IfErr result (IsFormStop (draft_of declared.now) (belief name.now n (map lexeme_of tokens.now))) }
+    requires capped { times ≤ times_cap }
+    ensures said { (n : ℕ) → times ≡ min n times_cap → IfOk result (λ agent. IsSaid (draft_of declared.now) (belief name.now n (map lexeme_of tokens.now)) (Said.Belief agent)) }
+    ensures stop { (n : ℕ) → times ≡ min n times_cap → IfErr result (IsFormStop (draft_of declared.now) (belief name.now n (map lexeme_of tokens.now))) }
 {
     let reserved = is_reserved(name.as_bytes());
     let twice = is_agent(declared, name);

@@ -23,13 +23,8 @@ impl Declarations {
         ensures stop { IfErr result (IsLineStop (draft_of self.old) line.now) }
         ensures kept { OnErr result (draft_of self.new ≡ draft_of self.old) }
     {
-        match judge(self, line) {
-            Err(stop) => Err(stop),
-            Ok(said) => match self.take_line(said, line) {
-                Err(_) => Err(LineStop::NoMemory),
-                Ok(written) => Ok(written),
-            },
-        }
+        let said = judge(self, line)?;
+        Ok(self.take_line(said, line)?)
     }
 
     /// Takes in what a line said, and tells whether the line is written as in a canonical text;

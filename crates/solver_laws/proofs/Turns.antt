@@ -180,19 +180,20 @@ ready_claimed g w f n t s r u fl =
       below = r.below;
     }
 
--- no clause that left two open is in one that leaves one open
-all_map : (P : List Lit → Type 0) (w : List Attached) → All (λ (a : Attached). P a.clause) w → All P (map (λ (a : Attached). a.clause) w)
+-- what holds of each attached clause
+pub all_map : (P : List Lit → Type 0) (w : List Attached) → All (λ (a : Attached). P a.clause) w → All P (map (λ (a : Attached). a.clause) w)
 all_map P [] h k d lt = absurd (omega arith)
 all_map P (a ∷ w) h zero d lt = h 0 a (omega arith)
 all_map P (a ∷ w) h (suc k) d lt = all_map P w (λ j e l. h (suc j) e (omega arith)) k d (omega arith)
 
+-- no clause that left two open is in one that leaves one open
 pub is_new : (g : Log) (w : List Attached) (f : List Place) (n : ℕ) (t : Trace) (low : List Entry) (c : List Lit) → IsReady g w f n t → IsComplete w low → AllByRecursion Ascends (known_of g) → room_of low c ≡ 1 → AllByRecursion (λ d. Includes c d → ⊥) (g.main ++ learned_of g.steps)
 is_new g w f n t low c r comp asc one =
     subst (AllByRecursion (λ d. Includes c d → ⊥)) r.attached
     (each_of_index (λ d. Includes c d → ⊥) (map (λ (a : Attached). a.clause) w) (all_map (λ d. Includes c d → ⊥) w (λ k d lt i. (let a : Ascends (get_or w k d).clause = each_at Ascends (known_of g) (get_or w k d).number (get_or w k d).clause asc (r.stand k d lt) in
     omega (arith, room_le low (get_or w k d).clause c a i, one, comp k d lt)))))
 
-attached_push : (w : List Attached) (a : Attached) → map (λ (x : Attached). x.clause) (w ++ a ∷ []) ≡ map (λ (x : Attached). x.clause) w ++ a.clause ∷ []
+pub attached_push : (w : List Attached) (a : Attached) → map (λ (x : Attached). x.clause) (w ++ a ∷ []) ≡ map (λ (x : Attached). x.clause) w ++ a.clause ∷ []
 attached_push [] a = refl
 attached_push (x ∷ w) a = ap (λ (zs : List (List Lit)). x.clause ∷ zs) (attached_push w a)
 

@@ -13,10 +13,10 @@ pub place_right : (xs ys : List ℕ) (k : ℕ) → length xs ≤ k → slice_ind
 place_right xs ys k le = get_or-append_right xs ys (length xs) k 0 refl le
 
 -- no variable of one list is one of the other
-abbrev pub AreApart : List ℕ → List ℕ → Type 0
-AreApart xs ys = (j k : ℕ) → j < length xs → k < length ys → slice_index xs j ≡ slice_index ys k → ⊥
+abbrev pub ShareNone : List ℕ → List ℕ → Type 0
+ShareNone xs ys = (j k : ℕ) → j < length xs → k < length ys → slice_index xs j ≡ slice_index ys k → ⊥
 
-pub distinct_append : (xs ys : List ℕ) → AreDistinct xs → AreDistinct ys → AreApart xs ys → AreDistinct (xs ++ ys)
+pub distinct_append : (xs ys : List ℕ) → AreDistinct xs → AreDistinct ys → ShareNone xs ys → AreDistinct (xs ++ ys)
 distinct_append xs ys f g apart j k hj hk e =
     let size = length-append xs ys in
     elim (leb_tells (length xs) j) [
@@ -34,27 +34,6 @@ distinct_append xs ys f g apart j k hj hk e =
             | inr b ↦ f j k a.1 b.1 (sym at_j ∙ e ∙ place_left xs ys k b.1)
           ])
     ]
-
-pub distinct_left : (xs ys : List ℕ) → AreDistinct (xs ++ ys) → AreDistinct xs
-distinct_left xs ys f j k hj hk e =
-    f j k (omega (arith, length-append xs ys)) (omega (arith, length-append xs ys)) (place_left xs ys j hj ∙ e ∙ sym (place_left xs ys k hk))
-
-pub distinct_right : (xs ys : List ℕ) → AreDistinct (xs ++ ys) → AreDistinct ys
-distinct_right xs ys f j k hj hk e =
-    let n = length xs in
-    let size = length-append xs ys in
-    let a : slice_index (xs ++ ys) (n + j) ≡ slice_index ys j = get_or-append-add xs ys j 0 in
-    let b : slice_index (xs ++ ys) (n + k) ≡ slice_index ys k = get_or-append-add xs ys k 0 in
-    let same : n + j ≡ n + k = f (n + j) (n + k) (omega arith) (omega arith) (a ∙ e ∙ sym b) in
-    omega arith
-
-pub distinct_apart : (xs ys : List ℕ) → AreDistinct (xs ++ ys) → AreApart xs ys
-distinct_apart xs ys f j k hj hk e =
-    let n = length xs in
-    let size = length-append xs ys in
-    let b : slice_index (xs ++ ys) (n + k) ≡ slice_index ys k = get_or-append-add xs ys k 0 in
-    let same : j ≡ n + k = f j (n + k) (omega arith) (omega arith) (place_left xs ys j hj ∙ e ∙ sym b) in
-    omega arith
 
 pub fresh_none : (v w : ℕ) → AreFresh v w []
 fresh_none v w = record { above = λ k lt. absurd (omega arith); within = λ k lt. absurd (omega arith); distinct = λ j k hj hk e. absurd (omega arith) }

@@ -7,11 +7,11 @@ use Rattle.problem_reading.proofs.OneSaid.{one_said}
 use Rattle.problem_reading.proofs.declarations.Declarations.line.Goals as goal
 
 pub take_line-requires : goal.take_line-requires
-take_line-requires c = fits (draft_of c.args.self.now) c.args.line.now c.in-Ok.said c.in-Ok.ensures.said
+take_line-requires c = fits (draft_of c.args.self.now) c.args.line.now c.in_ok-said.said c.in_ok-said.ensures.said
 
-pub returns-in-Ok-take_line-clause-canonical : goal.returns-in-Ok-take_line-clause-canonical
-returns-in-Ok-take_line-clause-canonical c = λ said says.
+pub returns-clause-canonical : goal.returns-clause-canonical
+returns-clause-canonical c = λ said says.
     let d = draft_of c.args.self.now in
     let line = c.args.line.now in
-    subst (λ (what : Said). IsTrue c.in-Ok-take_line.written ↔ IsWritten d line what) (one_said d line c.in-Ok.said said c.in-Ok.ensures.said says)
-    c.in-Ok-take_line.ensures.written
+    subst (λ (what : Said). IsTrue c.in_ok-take_line.field-0 ↔ IsWritten d line what) (one_said d line c.in_ok-said.said said c.in_ok-said.ensures.said says)
+    c.in_ok-take_line.ensures.written
