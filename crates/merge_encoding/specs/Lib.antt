@@ -1,0 +1,4 @@
+pub mod MainDues
+pub mod Frames
+pub mod Claims
+pub mod Assumptions
