@@ -5,8 +5,11 @@ ghost use Rattle.std.specs.Prelude.{◌≡◌, ◌≤◌, ◌++◌, length, OnOk
 ghost use Rattle.formulas.specs.Formulas.{width_of};
 ghost use Rattle.formula_text.specs.CanonicalText.{formula_text, joined_text, GrowsWithin};
 
+mod valuations;
+
 use edge::NoMemory;
 use formulas::{Atoms, Formula};
+pub use valuations::{write_valuation, write_valuations};
 
 /// Appends the canonical text of a formula whose atoms are all there; on `NoMemory` what was
 /// appended is a part of it from its start.
