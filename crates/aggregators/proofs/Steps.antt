@@ -3,7 +3,7 @@ use Rattle.std.proofs.Common.{◌≡◌, ℕ, zero, suc, ◌+◌, ◌-◌, ◌<�
 use Rattle.std.specs.Prelude.{map}
 use Rattle.std.proofs.lemmas.List.{append-nil}
 use Rattle.std.proofs.lemmas.List.Elements.{All-nil, All-cons, All-head, All-tail}
-use Rattle.ranks.specs.Limits.{count_limit}
+use Rattle.ranks.specs.Limits.{entry_limit}
 use Rattle.ranks.specs.Ranks.{downs}
 use Rattle.clause_store.specs.declared.lit.Lit.{Lit}
 use Rattle.clause_store.specs.Lits.{sorted_clause}
@@ -30,7 +30,7 @@ positive v [] h = All-nil (λ x. 1 ≤ x)
 positive v (x ∷ xs) h = All-cons (λ x. 1 ≤ x) x xs (h 0 (omega arith)).0 (positive v xs (λ k lt. h (suc k) (omega arith)))
 
 -- a total of few variables
-pub level_grows : (v k : ℕ) (parts : List (List ℕ)) → 1 ≤ length parts → length parts ≤ count_limit → (total_due v (leaves (column k parts))).vars ≤ v + level_room
+pub level_grows : (v k : ℕ) (parts : List (List ℕ)) → 1 ≤ length parts → length parts ≤ entry_limit → (total_due v (leaves (column k parts))).vars ≤ v + level_room
 level_grows v k parts some few =
     let xs = column k parts in
     let size = column_length k parts in

@@ -2,7 +2,7 @@
 use Rattle.std.specs.Prelude.{◌≡◌, ℕ, ◌+◌, ◌-◌, ◌<◌, ◌≤◌, Bool, List, [], ◌∷◌, ◌++◌, length, map, sum, All, Contains, slice_index, ◌⊎◌}
 use Rattle.std.specs.List.{AllZip, concat}
 use Rattle.aggregators.specs.Limits.{levels_room}
-use Rattle.ranks.specs.Limits.{count_limit, entry_limit}
+use Rattle.ranks.specs.Limits.{entry_limit, distance_limit}
 use Rattle.ranks.specs.Ranks.{downs}
 use Rattle.clause_store.specs.declared.lit.Lit.{Lit}
 use Rattle.clause_store.specs.Truth.{AreTrue}
@@ -68,9 +68,9 @@ pub record HaveLevels (v : ℕ) (aways : List (List ℕ)) (times : List ℕ) : T
   pub lengths : length aways ≡ length times
   pub some : 1 ≤ length aways
   pub positive : All (λ t. 1 ≤ t) times
-  pub few : sum times ≤ count_limit
+  pub few : sum times ≤ entry_limit
   pub sized : All (λ c. length c ≡ top_of aways) aways
-  pub small : top_of aways ≤ entry_limit
+  pub small : top_of aways ≤ distance_limit
   pub within : AllVarsWithin v aways
 
 -- each variable is above v, or one of the given ones

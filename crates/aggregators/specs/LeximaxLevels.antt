@@ -15,7 +15,7 @@ use Rattle.totalizer.proofs.Totals.{total_law, all_unary_agree, more_all}
 use Rattle.totalizer.proofs.Sizes.{leaves_unary, leaves_within, length-leaves, size_leaves, total_size}
 use Rattle.ranks.specs.Ranks.{at_least, bit, counts, downs}
 use Rattle.ranks.proofs.Counts.{at_least_most, length-downs}
-use Rattle.ranks.specs.Limits.{count_limit}
+use Rattle.ranks.specs.Limits.{entry_limit}
 use Rattle.merge_model.specs.Merging.{repeated}
 use Rattle.aggregators.specs.LevelValues.{leximax_values}
 use Rattle.aggregators.specs.Levels.{counts_of, top_of, column, totals_due, leximax_due, FitLevels, HaveLevels, AreLevels}
@@ -48,7 +48,7 @@ pub record TotalsAre (v : ℕ) (ks : List ℕ) (parts : List (List ℕ)) : Type 
   pub in_order : (b : ℕ → Bool) → AreTrue (totals_due ks v parts).clauses b → AllUnary b (totals_due ks v parts).levels
   pub values : (b : ℕ → Bool) → AllUnary b parts → AreTrue (totals_due ks v parts).clauses b → counts_of b (totals_due ks v parts).levels ≡ counts ks (counts_of b parts)
 
-pub totals_are : (ks : List ℕ) (n v : ℕ) (parts : List (List ℕ)) → 1 ≤ length parts → length parts ≤ count_limit → AllVarsWithin v parts → All (λ c. length c ≡ n) parts → AreNumbers n ks → TotalsAre v ks parts
+pub totals_are : (ks : List ℕ) (n v : ℕ) (parts : List (List ℕ)) → 1 ≤ length parts → length parts ≤ entry_limit → AllVarsWithin v parts → All (λ c. length c ≡ n) parts → AreNumbers n ks → TotalsAre v ks parts
 totals_are [] n v parts some few w s numbers = record {
   extends = no_clause Always v (λ a b h p. tt);
   few = omega arith;

@@ -3,7 +3,7 @@ use Rattle.std.proofs.Common.{◌≡◌, ℕ, ◌+◌, ◌*◌, ◌≤◌, Bool,
 use Rattle.std.specs.List.{concat}
 use Rattle.std.proofs.lemmas.List.Sums.{sum_by-cons, sum_by-le}
 use Rattle.std.proofs.lemmas.List.Elements.{All-head, All-tail}
-use Rattle.ranks.specs.Limits.{count_limit, entry_limit}
+use Rattle.ranks.specs.Limits.{entry_limit, distance_limit}
 use Rattle.clause_store.specs.Truth.{AreTrue}
 use Rattle.clause_store.proofs.Blocks.{weaker}
 use Rattle.totalizer.specs.Counter.{Due, count_of, AllUnary, sum_of}
@@ -18,14 +18,14 @@ use Rattle.aggregators.specs.Repeats.{unary_repeated, within_repeated, sized_rep
 use Rattle.aggregators.specs.LevelOutputs.{total_outputs}
 use Rattle.aggregators.specs.Limits.{levels_room}
 
-size_at_most : (m : ℕ) (cs : List (List ℕ)) → m ≤ entry_limit → All (λ c. length c ≡ m) cs → size cs ≤ entry_limit * length cs
+size_at_most : (m : ℕ) (cs : List (List ℕ)) → m ≤ distance_limit → All (λ c. length c ≡ m) cs → size cs ≤ distance_limit * length cs
 size_at_most m [] le h = omega arith
 size_at_most m (c ∷ cs) le h = omega (arith, size_at_most m cs le (All-tail (λ x. length x ≡ m) c cs h), All-head (λ x. length x ≡ m) c cs h)
 
 -- few parts add few variables for each output
-pub total_bound : (v : ℕ) (parts : List (List ℕ)) → 1 ≤ length parts → length parts ≤ count_limit → (total_due v parts).vars ≤ v + count_limit * size parts
+pub total_bound : (v : ℕ) (parts : List (List ℕ)) → 1 ≤ length parts → length parts ≤ entry_limit → (total_due v parts).vars ≤ v + entry_limit * size parts
 total_bound v parts some few =
-    subst (λ (d : Due). d.vars ≤ v + count_limit * size parts) (total_fuel count_limit (length parts) v parts few (omega arith)) (total_size count_limit v parts some few).0
+    subst (λ (d : Due). d.vars ≤ v + entry_limit * size parts) (total_fuel entry_limit (length parts) v parts few (omega arith)) (total_size entry_limit v parts some few).0
 
 sum_of_counts : (b : ℕ → Bool) (cs : List (List ℕ)) → sum_of b cs ≡ sum (counts_of b cs)
 sum_of_counts b [] = refl

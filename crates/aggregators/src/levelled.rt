@@ -1,7 +1,7 @@
 ghost use Rattle.std.specs.Prelude.{◌≡◌, ℕ, ◌+◌, ◌≤◌, List, ◌++◌, length, map, All, IfOk, OnOk, OnErr};
 ghost use Rattle.std.specs.Cmp.Lexicographic.{slice_cmp};
 ghost use Rattle.std.specs.Ordering.{nat_cmp};
-ghost use Rattle.ranks.specs.Limits.{count_limit, entry_limit};
+ghost use Rattle.ranks.specs.Limits.{entry_limit, distance_limit};
 ghost use Rattle.clause_store.specs.Grew.{Grew};
 ghost use Rattle.clause_store.specs.Lits.{sorted_clause};
 ghost use Rattle.clause_store.specs.Limits.{var_limit};
@@ -34,9 +34,9 @@ pub trait Levelled: Aggregator {
     /// `NoMemory` for want of it.
     fn level_values(&self, alloc: Global, full: &[u32], top: u32) -> Result<Vec<u32>, NoMemory>
         requires some { 1 ≤ length full.now }
-        requires few { length full.now ≤ count_limit }
+        requires few { length full.now ≤ entry_limit }
         requires within { All (λ k. k ≤ top) full.now }
-        requires small { top ≤ entry_limit }
+        requires small { top ≤ distance_limit }
         ensures { IfOk result (λ values. values.items ≡ levels_of self.now full.now top) };
 
     /// The levels of counters of distances that each count so often: 1 to 64 in all, of one length of at most

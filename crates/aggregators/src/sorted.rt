@@ -1,5 +1,5 @@
 ghost use Rattle.std.specs.Prelude.{◌≡◌, ◌+◌, ◌*◌, ◌<◌, ◌≤◌, ◌++◌, length, map, All, IfOk, OnOk, OnErr};
-ghost use Rattle.ranks.specs.Limits.{count_limit};
+ghost use Rattle.ranks.specs.Limits.{entry_limit};
 ghost use Rattle.ranks.specs.Ranks.{downs};
 ghost use Rattle.clause_store.specs.Grew.{Grew};
 ghost use Rattle.clause_store.specs.Lits.{sorted_clause};
@@ -54,7 +54,7 @@ impl Levelled for Leximax {
 
 /// How many entries are at least `top`, at least `top - 1`, down to at least 1.
 fn values_down(alloc: Global, full: &[u32], top: u32) -> Result<Vec<u32>, NoMemory>
-    requires { length full.now ≤ count_limit }
+    requires { length full.now ≤ entry_limit }
     ensures { IfOk result (λ values. values.items ≡ leximax_values full.now top) }
 {
     let mut values = Vec::new(alloc);
@@ -74,7 +74,7 @@ fn add_level(
     k: usize,
 ) -> Result<Unary, NoMemory>
     requires some { 1 ≤ length parts.now }
-    requires few { length parts.now ≤ count_limit }
+    requires few { length parts.now ≤ entry_limit }
     requires long { All (λ part. k < length part) parts.now }
     requires within { AllVarsWithin clauses.old.vars parts.now }
     requires room { clauses.old.vars + level_room ≤ var_limit }
@@ -96,7 +96,7 @@ fn add_levels(
     top: usize,
 ) -> Result<Vec<Unary>, NoMemory>
     requires some { 1 ≤ length parts.now }
-    requires few { length parts.now ≤ count_limit }
+    requires few { length parts.now ≤ entry_limit }
     requires sized { All (λ part. length part ≡ top) parts.now }
     requires within { AllVarsWithin clauses.old.vars parts.now }
     requires room { clauses.old.vars + level_room * top ≤ var_limit }
