@@ -8,7 +8,7 @@ use Rattle.std.proofs.lemmas.List.Elements.{All-nil, All-cons, All-head, All-tai
 use Rattle.clause_store.specs.declared.lit.Lit.{Lit}
 use Rattle.clause_store.specs.Lits.{positive_lit, negative_lit}
 use Rattle.clause_store.specs.Truth.{lit_true}
-use Rattle.clause_store.specs.Extends.{Are}
+use Rattle.clause_store.specs.Truth.{AreTrue}
 use Rattle.formulas.specs.declared.formula.Formula.{Formula}
 use Rattle.formulas.specs.declared.formula.Formula as formula
 use Rattle.formulas.specs.Formulas.{holds}
@@ -16,8 +16,9 @@ use Rattle.totalizer.specs.Counter.{count_of, IsUnary, AllUnary}
 use Rattle.totalizer.proofs.Law.{count_le}
 use Rattle.merge_model.specs.Merging.{Profile, IsModel}
 use Rattle.agent_copies.specs.Counter.{truth_of}
-use Rattle.agent_copies.specs.Copy.{CopyDue, fresh_lits}
-use Rattle.agent_copies.proofs.Copies.{length-fresh_lits}
+use Rattle.agent_copies.specs.Copy.{CopyDue}
+use Rattle.clause_store.specs.Fresh.{fresh_lits}
+use Rattle.clause_store.proofs.Fresh.{length-fresh_lits}
 use Rattle.aggregators.specs.Levels.{counts_of, FitLevels}
 use Rattle.merge_encoding.specs.MainDues.{aways_of, owns_of, MainDue, IsMain}
 use Rattle.merge_encoding.specs.Claims.{Assertion, NoModelOfConstraint, NoModelOfBase, NoNearer, NoBetter, NoBreaker, NoModelWith, IsCandidate, IsBetterAt, AreUpTo, base_at, ask_at, own_at, values_at, IsTrueThat, Breaks}
@@ -200,7 +201,7 @@ ask_is b u (r ∷ rs) (f ∷ fs) (suc q) e lt = let t : map b rs ≡ map (λ g. 
 
 -- an assignment with given valuations
 pub record Given (b : ℕ → Bool) (main : MainDue) (v : List Bool) (ws : List (List Bool)) : Type 0 where
-  pub holds_all : Are main.clauses b
+  pub holds_all : AreTrue main.clauses b
   pub shared : truth_of b main.shared ≡ v
   pub owns : owns_of b main.copies ≡ ws
 
@@ -217,7 +218,7 @@ shared_long dist top values_of p asks main m = ap length m.shared_are ∙ length
 pub shared_size : (dist : List Bool → List Bool → ℕ) (top : ℕ) (values_of : List ℕ → ℕ → List ℕ) (p : Profile) (asks : List Formula) (main : MainDue) → IsMain dist top values_of p asks main → (b : ℕ → Bool) → length (truth_of b main.shared) ≡ p.atoms
 shared_size dist top values_of p asks main m b = truths_size b main.shared ∙ ap length m.shared_are ∙ length-fresh_lits 0 p.atoms
 
-candidate_of : (dist : List Bool → List Bool → ℕ) (top : ℕ) (values_of : List ℕ → ℕ → List ℕ) (p : Profile) (asks : List Formula) (main : MainDue) → IsMain dist top values_of p asks main → (b : ℕ → Bool) → Are main.clauses b → AllTrue b (all_roots main) → IsCandidate p (truth_of b main.shared) (owns_of b main.copies)
+candidate_of : (dist : List Bool → List Bool → ℕ) (top : ℕ) (values_of : List ℕ → ℕ → List ℕ) (p : Profile) (asks : List Formula) (main : MainDue) → IsMain dist top values_of p asks main → (b : ℕ → Bool) → AreTrue main.clauses b → AllTrue b (all_roots main) → IsCandidate p (truth_of b main.shared) (owns_of b main.copies)
 candidate_of dist top values_of p asks main m b r h = record {
   model = record { size = shared_size dist top values_of p asks main m b; true_there = sym (m.constraint_is b r) ∙ h.0 };
   models = roots_say b p.atoms p.bases main.copies (m.roots_are b r) m.wide h.1;
@@ -246,7 +247,7 @@ owns_at b [] (suc i) = refl
 owns_at b (c ∷ cs) zero = refl
 owns_at b (c ∷ cs) (suc i) = owns_at b cs i
 
-broken_of : (dist : List Bool → List Bool → ℕ) (top : ℕ) (values_of : List ℕ → ℕ → List ℕ) (p : Profile) (asks : List Formula) (main : MainDue) → IsMain dist top values_of p asks main → (b : ℕ → Bool) → Are main.clauses b → (claim : Assertion) → IsProperOf main p.atoms claim → AllTrue b (assumed_of main claim) →
+broken_of : (dist : List Bool → List Bool → ℕ) (top : ℕ) (values_of : List ℕ → ℕ → List ℕ) (p : Profile) (asks : List Formula) (main : MainDue) → IsMain dist top values_of p asks main → (b : ℕ → Bool) → AreTrue main.clauses b → (claim : Assertion) → IsProperOf main p.atoms claim → AllTrue b (assumed_of main claim) →
     Breaks dist top values_of p asks claim (truth_of b main.shared) (owns_of b main.copies)
 broken_of dist top values_of p asks main m b r NoModelOfConstraint proper a = record { size = shared_size dist top values_of p asks main m b; true_there = sym (m.constraint_is b r) ∙ a.0 }
 broken_of dist top values_of p asks main m b r (NoModelOfBase i) proper a =
@@ -346,7 +347,7 @@ true_of dist top values_of p asks main m (NoModelWith values prefix) proper none
     (subst (λ ls. AllTrue b (signed ls prefix)) (sym m.shared_are) (signed_holds b 0 n prefix proper.1 there))))
 
 -- an assignment that satisfies the main clauses and a claim's assumptions has valuations that break the claim
-pub breaks_of : (dist : List Bool → List Bool → ℕ) (top : ℕ) (values_of : List ℕ → ℕ → List ℕ) (p : Profile) (asks : List Formula) (main : MainDue) → IsMain dist top values_of p asks main → (b : ℕ → Bool) → Are main.clauses b → (claim : Assertion) → IsProper main claim → AllTrue b (assumed main claim) →
+pub breaks_of : (dist : List Bool → List Bool → ℕ) (top : ℕ) (values_of : List ℕ → ℕ → List ℕ) (p : Profile) (asks : List Formula) (main : MainDue) → IsMain dist top values_of p asks main → (b : ℕ → Bool) → AreTrue main.clauses b → (claim : Assertion) → IsProper main claim → AllTrue b (assumed main claim) →
     Breaks dist top values_of p asks claim (truth_of b main.shared) (owns_of b main.copies)
 breaks_of dist top values_of p asks main m b r claim proper a =
     broken_of dist top values_of p asks main m b r claim (proper_same main p.atoms claim (shared_long dist top values_of p asks main m) proper) (subst (λ ls. AllTrue b ls) (assumed_same main claim) a)

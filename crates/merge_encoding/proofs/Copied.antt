@@ -5,22 +5,26 @@ use Rattle.std.proofs.lemmas.Bool.Decides.{leb_tells}
 use Rattle.std.proofs.lemmas.List.Elements.{All-nil, All-cons, All-head, All-tail}
 use Rattle.clause_store.specs.declared.lit.Lit.{Lit}
 use Rattle.clause_store.specs.Lits.{InRange}
-use Rattle.clause_store.specs.Truth.{all_true}
-use Rattle.clause_store.specs.Extends.{Extends, Are, Always}
-use Rattle.clause_store.proofs.Truths.{all_true-append, and_left, and_right, and_both, within_more}
+use Rattle.clause_store.specs.Extends.{Extends, Always}
+use Rattle.clause_store.specs.Truth.{AreTrue}
+use Rattle.clause_store.proofs.Truths.{within_more, both_true, true_both}
 use Rattle.clause_store.proofs.Blocks.{next, nothing, weaker}
 use Rattle.formulas.specs.declared.formula.Formula.{Formula}
 use Rattle.formulas.specs.Formulas.{holds, width_of}
 use Rattle.totalizer.specs.Counter.{AllUnary, AllVarsWithin, AreFresh}
-use Rattle.totalizer.proofs.Distinct.{ShareNone, place_left, place_right, fresh_none, fresh_append}
+use Rattle.totalizer.proofs.Distinct.{ShareNone, place_left, place_right, fresh_none, fresh_append, fresh_tail, fresh_rest}
 use Rattle.totalizer.proofs.Law.{more_vars}
 use Rattle.agent_copies.specs.Counter.{truth_of}
-use Rattle.agent_copies.specs.Copy.{CopyDue, copy_due, fresh_lits}
-use Rattle.agent_copies.proofs.Copies.{Counts, copy_is, fresh_cons, length-fresh_lits, fresh_lits_in}
+use Rattle.agent_copies.specs.Limits.{shared_limit}
+use Rattle.agent_copies.proofs.Truths.{free}
+use Rattle.agent_copies.specs.Copy.{CopyDue, copy_due}
+use Rattle.clause_store.specs.Fresh.{fresh_lits}
+use Rattle.agent_copies.proofs.Copies.{Counts, copy_is, fresh_cons}
+use Rattle.clause_store.proofs.Fresh.{length-fresh_lits, fresh_lits_in}
 use Rattle.aggregators.specs.Levels.{counts_of}
 use Rattle.merge_encoding.specs.MainDues.{DueCounter, CopiesDue, copies_due, aways_of, owns_of}
 use Rattle.merge_encoding.specs.Frames.{copy_of, IsCopyOver}
-use Rattle.merge_encoding.proofs.Defined.{free, fresh_tail, fresh_rest, fresh_within}
+use Rattle.merge_encoding.proofs.Defined.{fresh_within}
 
 abbrev pub roots_of : List CopyDue → List ℕ
 roots_of copies = map (λ (c : CopyDue). c.root) copies
@@ -29,11 +33,11 @@ roots_of copies = map (λ (c : CopyDue). c.root) copies
 -- have the values of the bases and the counters count the distances. Roots and outputs are distinct and fresh
 pub record AreCopies (v : ℕ) (shared : List Lit) (bases : List Formula) (dist : List Bool → List Bool → ℕ) (top : ℕ) (d : CopiesDue) : Type 0 where
   pub grows : v ≤ d.vars
-  pub extends : (ws : List (List Bool)) → length ws ≡ length bases → All (λ w. length w ≡ length shared) ws → Extends Always (λ b. (owns_of b d.copies ≡ ws) × Are d.clauses b) v d.vars
+  pub extends : (ws : List (List Bool)) → length ws ≡ length bases → All (λ w. length w ≡ length shared) ws → Extends Always (λ b. (owns_of b d.copies ≡ ws) × AreTrue d.clauses b) v d.vars
   pub size : length d.copies ≡ length bases
-  pub roots : (b : ℕ → Bool) → Are d.clauses b → AllZip (λ base (c : CopyDue). b c.root ≡ holds base (truth_of b c.own)) bases d.copies
-  pub in_order : (b : ℕ → Bool) → Are d.clauses b → AllUnary b (aways_of d.copies)
-  pub values : (b : ℕ → Bool) → Are d.clauses b → counts_of b (aways_of d.copies) ≡ map (dist (truth_of b shared)) (owns_of b d.copies)
+  pub roots : (b : ℕ → Bool) → AreTrue d.clauses b → AllZip (λ base (c : CopyDue). b c.root ≡ holds base (truth_of b c.own)) bases d.copies
+  pub in_order : (b : ℕ → Bool) → AreTrue d.clauses b → AllUnary b (aways_of d.copies)
+  pub values : (b : ℕ → Bool) → AreTrue d.clauses b → counts_of b (aways_of d.copies) ≡ map (dist (truth_of b shared)) (owns_of b d.copies)
   pub sized : All (λ c. length c ≡ top) (aways_of d.copies)
   pub within : AllVarsWithin d.vars (aways_of d.copies)
   pub wide : All (λ (c : CopyDue). length c.own ≡ length shared) d.copies
@@ -42,34 +46,27 @@ pub record AreCopies (v : ℕ) (shared : List Lit) (bases : List Formula) (dist 
   pub outputs_fresh : AreFresh v d.vars (concat (aways_of d.copies))
   pub apart : ShareNone (roots_of d.copies) (concat (aways_of d.copies))
 
--- clauses of two lists
-pub split : (b : ℕ → Bool) (cs ds : List (List Lit)) → Are (cs ++ ds) b → Are cs b × Are ds b
-split b cs ds r = let s = sym (all_true-append b cs ds) ∙ r in (and_left (all_true b cs) (all_true b ds) s, and_right (all_true b cs) (all_true b ds) s)
-
-pub join : (b : ℕ → Bool) (cs ds : List (List Lit)) → Are cs b → Are ds b → Are (cs ++ ds) b
-join b cs ds r s = all_true-append b cs ds ∙ and_both (all_true b cs) (all_true b ds) r s
-
-copies_none : (v : ℕ) (ws : List (List Bool)) → length ws ≡ 0 → Extends Always (λ b. (owns_of b [] ≡ ws) × Are [] b) v v
-copies_none v [] e = weaker Always Always (λ b. (owns_of b [] ≡ []) × Are [] b) Always v v (nothing Always v (λ a b h p. tt)) (λ a b h p. tt) (λ a b h r. (refl, refl)) (λ b p. tt) (λ b p r. tt) (λ b p r. (refl, refl))
+copies_none : (v : ℕ) (ws : List (List Bool)) → length ws ≡ 0 → Extends Always (λ b. (owns_of b [] ≡ ws) × AreTrue [] b) v v
+copies_none v [] e = weaker Always Always (λ b. (owns_of b [] ≡ []) × AreTrue [] b) Always v v (nothing Always v (λ a b h p. tt)) (λ a b h p. tt) (λ a b h r. (refl, refl)) (λ b p. tt) (λ b p r. tt) (λ b p r. (refl, refl))
 copies_none v (w ∷ ws) e = absurd (omega arith)
 
-copies_more : (v u w n : ℕ) (c : CopyDue) (cs : List CopyDue) (ds : List (List Lit)) (m : ℕ) → c.own ≡ fresh_lits v n → Extends Always (Are c.clauses) (v + n) u →
-    ((ws : List (List Bool)) → length ws ≡ m → All (λ x. length x ≡ n) ws → Extends Always (λ b. (owns_of b cs ≡ ws) × Are ds b) u w) →
-    (ws : List (List Bool)) → length ws ≡ suc m → All (λ x. length x ≡ n) ws → Extends Always (λ b. (owns_of b (c ∷ cs) ≡ ws) × Are (c.clauses ++ ds) b) v w
+copies_more : (v u w n : ℕ) (c : CopyDue) (cs : List CopyDue) (ds : List (List Lit)) (m : ℕ) → c.own ≡ fresh_lits v n → Extends Always (AreTrue c.clauses) (v + n) u →
+    ((ws : List (List Bool)) → length ws ≡ m → All (λ x. length x ≡ n) ws → Extends Always (λ b. (owns_of b cs ≡ ws) × AreTrue ds b) u w) →
+    (ws : List (List Bool)) → length ws ≡ suc m → All (λ x. length x ≡ n) ws → Extends Always (λ b. (owns_of b (c ∷ cs) ≡ ws) × AreTrue (c.clauses ++ ds) b) v w
 copies_more v u w n c cs ds m own one rest [] e o = absurd (omega arith)
 copies_more v u w n c cs ds m own one rest (x ∷ ws) e o =
-    let R : (ℕ → Bool) → Type 0 = λ b. (truth_of b (fresh_lits v n) ≡ x) × Are c.clauses b in
-    let S : (ℕ → Bool) → Type 0 = λ b. (owns_of b cs ≡ ws) × Are ds b in
-    let T : (ℕ → Bool) → Type 0 = λ b. (owns_of b (c ∷ cs) ≡ x ∷ ws) × Are (c.clauses ++ ds) b in
-    let here : Extends Always R v u = next Always Always (λ b. truth_of b (fresh_lits v n) ≡ x) (Are c.clauses) v (v + n) u (free v n x (All-head (λ y. length y ≡ n) x ws o)) one (λ b p r. tt) in
+    let R : (ℕ → Bool) → Type 0 = λ b. (truth_of b (fresh_lits v n) ≡ x) × AreTrue c.clauses b in
+    let S : (ℕ → Bool) → Type 0 = λ b. (owns_of b cs ≡ ws) × AreTrue ds b in
+    let T : (ℕ → Bool) → Type 0 = λ b. (owns_of b (c ∷ cs) ≡ x ∷ ws) × AreTrue (c.clauses ++ ds) b in
+    let here : Extends Always R v u = next Always Always (λ b. truth_of b (fresh_lits v n) ≡ x) (AreTrue c.clauses) v (v + n) u (free v n x (All-head (λ y. length y ≡ n) x ws o)) one (λ b p r. tt) in
     let both = next Always Always R S v u w here (rest ws (omega arith) (All-tail (λ y. length y ≡ n) x ws o)) (λ b p r. tt) in
     let to : (b : ℕ → Bool) → T b → R b × S b = λ b r.
-    let s = split b c.clauses ds r.1 in
+    let s = both_true b c.clauses ds r.1 in
     let h : truth_of b c.own ≡ x = let e = r.0 in cc in
     let t : owns_of b cs ≡ ws = let e = r.0 in cc in
     ((ap (truth_of b) (sym own) ∙ h, s.0), (t, s.1)) in
     let from : (b : ℕ → Bool) → R b × S b → T b = λ b r.
-    (ap (λ y. y ∷ owns_of b cs) (ap (truth_of b) own ∙ r.0.0) ∙ ap (λ ys. x ∷ ys) r.1.0, join b c.clauses ds r.0.1 r.1.1) in
+    (ap (λ y. y ∷ owns_of b cs) (ap (truth_of b) own ∙ r.0.0) ∙ ap (λ ys. x ∷ ys) r.1.0, true_both b c.clauses ds r.0.1 r.1.1) in
     weaker Always Always T (λ b. R b × S b) v w both (λ a b h p. tt) (λ a b h r. from b (both.within a b h (to a r))) (λ b p. p) (λ b p r. to b r) (λ b p r. from b r)
 
 apart_more : (v u w r : ℕ) (xs roots outputs : List ℕ) → AreFresh v u (r ∷ xs) → AreFresh u w roots → AreFresh u w outputs → ShareNone roots outputs → ShareNone (r ∷ roots) (xs ++ outputs)
@@ -97,7 +94,7 @@ apart_more v u w r xs roots outputs f rf of apart (suc j) k hj hk e =
           omega arith)
     ]
 
-pub copies_are : (dist : List Bool → List Bool → ℕ) (most : ℕ → ℕ) (due : DueCounter) → Counts dist most due → (shared : List Lit) → 1 ≤ length shared → length shared ≤ 64 → (v : ℕ) → InRange v shared → (bases : List Formula) → All (λ f. width_of f ≤ length shared) bases → AreCopies v shared bases dist (most (length shared)) (copies_due due shared v bases)
+pub copies_are : (dist : List Bool → List Bool → ℕ) (most : ℕ → ℕ) (due : DueCounter) → Counts dist most due → (shared : List Lit) → 1 ≤ length shared → length shared ≤ shared_limit → (v : ℕ) → InRange v shared → (bases : List Formula) → All (λ f. width_of f ≤ length shared) bases → AreCopies v shared bases dist (most (length shared)) (copies_due due shared v bases)
 copies_are dist most due law shared lo hi v in_range [] wide = record {
   grows = omega arith;
   extends = λ ws e o. copies_none v ws e;
@@ -132,10 +129,10 @@ copies_are dist most due law shared lo hi v in_range (base ∷ bases) wide =
       grows = omega arith;
       extends = λ ws e o. copies_more v c.vars d.vars n c d.copies d.clauses (length bases) one.own one.extends rest.extends ws e o;
       size = omega (arith, rest.size);
-      roots = λ b r. let s = split b c.clauses d.clauses r in (one.root b s.0, rest.roots b s.1);
-      in_order = λ b r. let s = split b c.clauses d.clauses r in (one.in_order b s.0, rest.in_order b s.1);
+      roots = λ b r. let s = both_true b c.clauses d.clauses r in (one.root b s.0, rest.roots b s.1);
+      in_order = λ b r. let s = both_true b c.clauses d.clauses r in (one.in_order b s.0, rest.in_order b s.1);
       values = λ b r.
-          let s = split b c.clauses d.clauses r in
+          let s = both_true b c.clauses d.clauses r in
           ap (λ x. x ∷ counts_of b (aways_of d.copies)) (one.value b s.0) ∙ ap (λ xs. dist (truth_of b shared) (truth_of b c.own) ∷ xs) (rest.values b s.1);
       sized = All-cons (λ x. length x ≡ most n) c.away (aways_of d.copies) one.size rest.sized;
       within = (away_in, rest.within);

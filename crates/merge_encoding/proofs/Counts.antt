@@ -5,36 +5,13 @@ use Rattle.std.specs.List.{concat}
 use Rattle.std.proofs.lemmas.Bool.Decides.{nat_tests}
 use Rattle.clause_store.specs.declared.lit.Lit.{Lit}
 use Rattle.clause_store.specs.Lits.{positive_lit, negative_lit, negated}
-use Rattle.totalizer.specs.Counter.{AreDistinct}
+use Rattle.clause_store.proofs.Once.{times_in, IsOnce, vars_of, times_append, times_vars, times_place, pairs_apart}
 use Rattle.agent_copies.specs.declared.copy.AgentCopy.{AgentCopy}
 use Rattle.aggregators.specs.Levels.{FitLevels}
 use Rattle.merge_encoding.specs.declared.frame.Frame.{Frame}
 use Rattle.merge_encoding.specs.Frames.{copy_in, roots_in, level_lits, distance_lits, FrameIsDistinct}
 use Rattle.merge_encoding.specs.Claims.{Assertion, NoModelOfConstraint, NoModelOfBase, NoNearer, NoBetter, NoBreaker, NoModelWith}
 use Rattle.merge_encoding.specs.Assumptions.{signed, at_most_lits, each_at_most, better_lits, assumed_in, IsProperIn}
-
--- how often a variable stands there
-abbrev pub times_in : ℕ → List ℕ → ℕ
-times_in z [] = 0
-times_in z (x ∷ xs) = (if nat_eq z x then 1 else 0) + times_in z xs
-
-abbrev pub vars_of : List Lit → List ℕ
-vars_of ls = map (λ (l : Lit). l.var) ls
-
--- each variable at most once
-abbrev pub IsOnce : List ℕ → Type 0
-IsOnce xs = (z : ℕ) → times_in z xs ≤ 1
-
-pub times_append : (z : ℕ) (xs ys : List ℕ) → times_in z (xs ++ ys) ≡ times_in z xs + times_in z ys
-times_append z [] ys = omega arith
-times_append z (x ∷ xs) ys = omega (arith, times_append z xs ys)
-
-vars_append : (ls ms : List Lit) → vars_of (ls ++ ms) ≡ vars_of ls ++ vars_of ms
-vars_append [] ms = refl
-vars_append (l ∷ ls) ms = ap (λ x. l.var ∷ x) (vars_append ls ms)
-
-pub times_vars : (z : ℕ) (ls ms : List Lit) → times_in z (vars_of (ls ++ ms)) ≡ times_in z (vars_of ls) + times_in z (vars_of ms)
-times_vars z ls ms = ap (times_in z) (vars_append ls ms) ∙ times_append z (vars_of ls) (vars_of ms)
 
 vars-positive : (xs : List ℕ) → vars_of (map positive_lit xs) ≡ xs
 vars-positive [] = refl
@@ -43,47 +20,7 @@ vars-positive (x ∷ xs) = ap (λ ys. x ∷ ys) (vars-positive xs)
 pub times_positive : (z : ℕ) (xs : List ℕ) → times_in z (vars_of (map positive_lit xs)) ≡ times_in z xs
 times_positive z xs = ap (times_in z) (vars-positive xs)
 
--- distinct variables stand once each
-none_by : (z x : ℕ) (xs : List ℕ) (t : Bool) → nat_eq z x ≡ t → ((k : ℕ) → k < length (x ∷ xs) → slice_index (x ∷ xs) k ≡ z → ⊥) → times_in z xs ≡ 0 → (if t then 1 else 0) + times_in z xs ≡ 0
-none_by z x xs true e h rest = absurd (h 0 (omega arith) (let s : z ≡ x = grind (arith, nat_tests) in sym s))
-none_by z x xs false e h rest = omega (arith, rest)
-
-none_of : (z : ℕ) (xs : List ℕ) → ((k : ℕ) → k < length xs → slice_index xs k ≡ z → ⊥) → times_in z xs ≡ 0
-none_of z [] h = refl
-none_of z (x ∷ xs) h = none_by z x xs (nat_eq z x) refl h (none_of z xs (λ k lt e. h (suc k) (omega arith) e))
-
-once_by : (z x : ℕ) (xs : List ℕ) (t : Bool) → nat_eq z x ≡ t → AreDistinct (x ∷ xs) → times_in z xs ≤ 1 → (if t then 1 else 0) + times_in z xs ≤ 1
-once_by z x xs true e h rest =
-    let s : z ≡ x = grind (arith, nat_tests) in
-    let n = none_of z xs (λ k lt is. let q : zero ≡ suc k = h zero (suc k) (omega arith) (omega arith) (sym s ∙ sym is) in omega arith) in
-    omega arith
-once_by z x xs false e h rest = omega (arith, rest)
-
-pub once_of : (xs : List ℕ) → AreDistinct xs → IsOnce xs
-once_of [] h z = omega arith
-once_of (x ∷ xs) h z = once_by z x xs (nat_eq z x) refl h (once_of xs (λ j k hj hk e. let s : suc j ≡ suc k = h (suc j) (suc k) (omega arith) (omega arith) e in omega arith) z)
-
-same_test : (x : ℕ) → nat_eq x x ≡ true
-same_test x = grind (arith, nat_tests)
-
-has_one : (ls : List Lit) (k : ℕ) (d : Lit) → k < length ls → 1 ≤ times_in (slice_index_or ls k d).var (vars_of ls)
-has_one [] k d lt = absurd (omega arith)
-has_one (l ∷ ls) zero d lt = let e = ap (λ (t : Bool). (if t then 1 else 0) + times_in l.var (vars_of ls)) (same_test l.var) in omega arith
-has_one (l ∷ ls) (suc k) d lt = let h = has_one ls k d (omega arith) in omega arith
-
--- variables that stand once each are pairwise different
-pub pairs_apart : (ls : List Lit) → IsOnce (vars_of ls) → AllPairs (λ (a b : Lit). a.var ≢ b.var) ls
-pairs_apart [] h i j d lt hj = absurd (omega arith)
-pairs_apart (l ∷ ls) h i zero d lt hj = absurd (omega arith)
-pairs_apart (l ∷ ls) h zero (suc j) d lt hj = λ e.
-    let one = has_one ls j d (omega arith) in
-    let two = h l.var in
-    let f = ap (λ (t : Bool). (if t then 1 else 0) + times_in l.var (vars_of ls)) (same_test l.var) in
-    let g : times_in (slice_index_or ls j d).var (vars_of ls) ≡ times_in l.var (vars_of ls) = ap (λ z. times_in z (vars_of ls)) (sym e) in
-    omega arith
-pairs_apart (l ∷ ls) h (suc i) (suc j) d lt hj = pairs_apart ls (λ z. let x = h z in omega arith) i j d (omega arith) (omega arith)
-
--- and the other way round
+-- literals on different variables have each variable once
 none_lit_by : (z : ℕ) (l : Lit) (ls : List Lit) (t : Bool) → nat_eq z l.var ≡ t → (z ≡ l.var → ⊥) → times_in z (vars_of ls) ≡ 0 → (if t then 1 else 0) + times_in z (vars_of ls) ≡ 0
 none_lit_by z l ls true e h rest = absurd (h (let s : z ≡ l.var = grind (arith, nat_tests) in s))
 none_lit_by z l ls false e h rest = omega (arith, rest)
@@ -104,11 +41,6 @@ once_from [] h z = omega arith
 once_from (l ∷ ls) h z = once_lit_by z l ls (nat_eq z l.var) refl h (once_from ls (λ i j d lt hj. h (suc i) (suc j) d (omega arith) (omega arith)) z)
 
 -- what the parts of an assumption take of the frame's literals
-one_of : (z : ℕ) (xs : List ℕ) (k : ℕ) → k < length xs → times_in z (slice_index xs k ∷ []) ≤ times_in z xs
-one_of z [] k lt = absurd (omega arith)
-one_of z (x ∷ xs) zero lt = omega arith
-one_of z (x ∷ xs) (suc k) lt = omega (arith, one_of z xs k (omega arith))
-
 lit_under : (z : ℕ) (ls : List Lit) (k : ℕ) (d : Lit) → k < length ls → times_in z (vars_of (negated (slice_index_or ls k d) ∷ [])) ≤ times_in z (vars_of ls)
 lit_under z [] k d lt = absurd (omega arith)
 lit_under z (l ∷ ls) zero d lt = omega arith
@@ -120,7 +52,7 @@ signed_under z (l ∷ ls) [] = omega arith
 signed_under z (l ∷ ls) (x ∷ w) = omega (arith, signed_under z ls w)
 
 limit_by : (z : ℕ) (l : List ℕ) (x : ℕ) (t : Bool) → nat_lt x (length l) ≡ t → times_in z (vars_of (if t then negative_lit (slice_index l x) ∷ [] else [])) ≤ times_in z l
-limit_by z l x true e = let lt : x < length l = grind (arith, nat_tests) in one_of z l x lt
+limit_by z l x true e = let lt : x < length l = grind (arith, nat_tests) in times_place z l x lt
 limit_by z l x false e = omega arith
 
 limit_under : (z : ℕ) (l : List ℕ) (x : ℕ) → times_in z (vars_of (at_most_lits l x)) ≤ times_in z l
@@ -137,7 +69,7 @@ limits_under z (l ∷ ls) (x ∷ values) = omega (arith, times_vars z (at_most_l
 better_under : (z j : ℕ) (ls : List (List ℕ)) (values : List ℕ) → FitLevels values ls → j < length ls → 1 ≤ slice_index values j → times_in z (vars_of (better_lits j ls values)) ≤ times_in z (concat ls)
 better_under z j [] values f lt lo = absurd (omega arith)
 better_under z j (l ∷ ls) [] f lt lo = absurd f
-better_under z zero (l ∷ ls) (x ∷ values) f lt lo = omega (arith, one_of z l (x - 1) (let y = f.0 in omega arith), times_concat z l ls)
+better_under z zero (l ∷ ls) (x ∷ values) f lt lo = omega (arith, times_place z l (x - 1) (let y = f.0 in omega arith), times_concat z l ls)
 better_under z (suc j) (l ∷ ls) (x ∷ values) f lt lo = omega (arith, times_vars z (at_most_lits l x) (better_lits j ls values), limit_under z l x, better_under z j ls values f.1 (omega arith) lo, times_concat z l ls)
 
 root_under : (z : ℕ) (cs : List AgentCopy) (i : ℕ) → i < length cs → times_in z (vars_of ((copy_in cs i).root ∷ [])) ≤ times_in z (vars_of (map (λ (c : AgentCopy). c.root) cs))
@@ -173,7 +105,7 @@ assumed_once f d (NoModelOfBase i) p z =
 assumed_once f d (NoNearer i v k) p z =
     let a = d.by_distances in
     let c = copy_in f.copies i in
-    omega (arith, once_from (distance_lits f) a.distinct z, distance_times z f, times_vars z (signed f.shared v) (c.root ∷ negative_lit (slice_index c.away (k - 1)) ∷ []), signed_under z f.shared v, root_under z f.copies i p.0, away_under z f.copies i p.0, one_of z c.away (k - 1) (let x = p.2 in let y = p.3 in omega arith))
+    omega (arith, once_from (distance_lits f) a.distinct z, distance_times z f, times_vars z (signed f.shared v) (c.root ∷ negative_lit (slice_index c.away (k - 1)) ∷ []), signed_under z f.shared v, root_under z f.copies i p.0, away_under z f.copies i p.0, times_place z c.away (k - 1) (let x = p.2 in let y = p.3 in omega arith))
 assumed_once f d (NoBetter j values) p z =
     let a = d.by_levels in
     omega (arith, once_from (level_lits f) a.distinct z, level_times z f, times_vars z (roots_in f) (better_lits j f.levels values), better_under z j f.levels values p.1 p.0 p.2)

@@ -7,10 +7,12 @@ use Rattle.std.proofs.lemmas.List.Elements.{All-cons, All-nil, All-append, All-m
 use Rattle.clause_store.specs.declared.lit.Lit.{Lit}
 use Rattle.clause_store.specs.Lits.{positive_lit, InRange}
 use Rattle.clause_store.proofs.Truths.{within_more}
+use Rattle.clause_store.proofs.Once.{times_in, vars_of, IsOnce, times_append, pairs_apart}
 use Rattle.formulas.specs.declared.formula.Formula.{Formula}
 use Rattle.clause_translation.proofs.Parts.{some_node}
-use Rattle.totalizer.specs.Counter.{fresh_vars, AreVarsWithin, AreFresh}
-use Rattle.totalizer.proofs.Distinct.{ShareNone, place_left, place_right, fresh_append, distinct_append}
+use Rattle.totalizer.specs.Counter.{AreVarsWithin, AreFresh}
+use Rattle.clause_store.specs.Fresh.{fresh_vars}
+use Rattle.totalizer.proofs.Distinct.{ShareNone, place_left, place_right, fresh_append, distinct_append, once_of}
 use Rattle.totalizer.proofs.FreshVars.{fresh_vars_are}
 use Rattle.totalizer.proofs.Law.{more_vars}
 use Rattle.merge_model.specs.Merging.{Profile}
@@ -22,7 +24,7 @@ use Rattle.merge_encoding.specs.MainDues.{DueCounter, DueLevels, aways_of, main_
 use Rattle.merge_encoding.specs.Frames.{copy_of, frame_of, IsCopyOver, IsFrameOver, level_lits, distance_lits, FrameIsDistinct}
 use Rattle.merge_encoding.proofs.Defined.{definitions_fresh}
 use Rattle.merge_encoding.proofs.Copied.{roots_of}
-use Rattle.merge_encoding.proofs.Counts.{times_in, vars_of, IsOnce, times_append, times_positive, once_of, pairs_apart, level_times, distance_times}
+use Rattle.merge_encoding.proofs.Counts.{times_positive, level_times, distance_times}
 use Rattle.merge_encoding.proofs.OneAssignment.{AreLaws, shared_of, constraint_of, asked_of, copied_of, leveled_of, shared_long, shared_within, constraint_room, asked_room, copies_made, levels_made}
 
 -- more variables

@@ -11,4 +11,3 @@ pub mod Limits
 pub mod Steps
 pub mod Encoded
 pub mod Signs
-pub mod Places

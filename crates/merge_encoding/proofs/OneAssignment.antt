@@ -5,8 +5,9 @@ use Rattle.std.proofs.lemmas.List.{length-map}
 use Rattle.std.proofs.lemmas.List.Elements.{All-head}
 use Rattle.clause_store.specs.declared.lit.Lit.{Lit}
 use Rattle.clause_store.specs.Lits.{InRange}
-use Rattle.clause_store.specs.Extends.{Extends, Are, Always}
-use Rattle.clause_store.proofs.Truths.{within_more}
+use Rattle.clause_store.specs.Extends.{Extends, Always}
+use Rattle.clause_store.specs.Truth.{AreTrue}
+use Rattle.clause_store.proofs.Truths.{within_more, both_true, true_both}
 use Rattle.clause_store.proofs.Blocks.{next, weaker}
 use Rattle.formulas.specs.declared.formula.Formula.{Formula}
 use Rattle.formulas.specs.Formulas.{nodes_of, width_of}
@@ -16,12 +17,17 @@ use Rattle.clause_translation.proofs.Parts.{root_is}
 use Rattle.totalizer.specs.Counter.{AllUnary}
 use Rattle.merge_model.specs.Merging.{Profile, repeated}
 use Rattle.agent_copies.specs.Counter.{truth_of}
-use Rattle.agent_copies.specs.Copy.{CopyDue, fresh_lits}
-use Rattle.agent_copies.proofs.Copies.{Counts, length-fresh_lits, fresh_lits_in}
+use Rattle.formulas.specs.Limits.{valuation_limit}
+use Rattle.agent_copies.proofs.Truths.{free}
+use Rattle.ranks.specs.Limits.{distance_limit}
+use Rattle.agent_copies.specs.Copy.{CopyDue}
+use Rattle.clause_store.specs.Fresh.{fresh_lits}
+use Rattle.agent_copies.proofs.Copies.{Counts}
+use Rattle.clause_store.proofs.Fresh.{length-fresh_lits, fresh_lits_in}
 use Rattle.aggregators.specs.Levels.{LevelsDue, FitLevels, top_of, HaveLevels, AreLevels}
 use Rattle.merge_encoding.specs.MainDues.{DueCounter, DueLevels, DefinedAll, definitions, CopiesDue, copies_due, aways_of, owns_of, main_due, distances_in, IsLimited, IsMain}
-use Rattle.merge_encoding.proofs.Defined.{free, definitions_are, roots_size, definitions_room}
-use Rattle.merge_encoding.proofs.Copied.{AreCopies, copies_are, split, join}
+use Rattle.merge_encoding.proofs.Defined.{definitions_are, roots_size, definitions_room}
+use Rattle.merge_encoding.proofs.Copied.{AreCopies, copies_are}
 
 -- what the laws of an aggregator say of its levels
 abbrev pub Levels : (List ℕ → ℕ → List ℕ) → DueLevels → Type 0
@@ -31,7 +37,7 @@ Levels values_of levels_due = (v : ℕ) (aways : List (List ℕ)) (times : List 
 pub record AreLaws (dist : List Bool → List Bool → ℕ) (most : ℕ → ℕ) (due : DueCounter) (values_of : List ℕ → ℕ → List ℕ) (levels_due : DueLevels) : Type 0 where
   pub counts : Counts dist most due
   pub levels : Levels values_of levels_due
-  pub bounded : (n : ℕ) → 1 ≤ n → n ≤ 64 → most n ≤ 4096
+  pub bounded : (n : ℕ) → 1 ≤ n → n ≤ valuation_limit → most n ≤ distance_limit
 
 -- the parts of the main clauses
 abbrev pub shared_of : Profile → List Lit
@@ -67,24 +73,24 @@ top_by top [] some h = absurd (omega arith)
 top_by top (c ∷ cs) some h = All-head (λ x. length x ≡ top) c cs h
 
 main_one : (n cv av kv lv : ℕ) (shared : List Lit) (c a k l : List (List Lit)) (copies : List CopyDue) (P : (ℕ → Bool) → Type 0) (v : List Bool) (ws : List (List Bool)) →
-    Extends Always (λ b. truth_of b shared ≡ v) 0 n → Extends Always (Are c) n cv → Extends Always (Are a) cv av → Extends Always (λ b. (owns_of b copies ≡ ws) × Are k b) av kv → Extends P (Are l) kv lv → ((b : ℕ → Bool) → Are k b → P b) →
-    Extends Always (λ b. ((truth_of b shared ≡ v) × (owns_of b copies ≡ ws)) × Are (((c ++ a) ++ k) ++ l) b) 0 lv
+    Extends Always (λ b. truth_of b shared ≡ v) 0 n → Extends Always (AreTrue c) n cv → Extends Always (AreTrue a) cv av → Extends Always (λ b. (owns_of b copies ≡ ws) × AreTrue k b) av kv → Extends P (AreTrue l) kv lv → ((b : ℕ → Bool) → AreTrue k b → P b) →
+    Extends Always (λ b. ((truth_of b shared ≡ v) × (owns_of b copies ≡ ws)) × AreTrue (((c ++ a) ++ k) ++ l) b) 0 lv
 main_one n cv av kv lv shared c a k l copies P v ws first second third fourth fifth leads =
-    let R : (ℕ → Bool) → Type 0 = λ b. ((truth_of b shared ≡ v) × Are c b) × Are a b in
-    let S : (ℕ → Bool) → Type 0 = λ b. R b × ((owns_of b copies ≡ ws) × Are k b) in
-    let U : (ℕ → Bool) → Type 0 = λ b. S b × Are l b in
-    let T : (ℕ → Bool) → Type 0 = λ b. ((truth_of b shared ≡ v) × (owns_of b copies ≡ ws)) × Are (((c ++ a) ++ k) ++ l) b in
-    let one = next Always Always (λ b. truth_of b shared ≡ v) (Are c) 0 n cv first second (λ b p r. tt) in
-    let two : Extends Always R 0 av = next Always Always (λ b. (truth_of b shared ≡ v) × Are c b) (Are a) 0 cv av one third (λ b p r. tt) in
-    let three : Extends Always S 0 kv = next Always Always R (λ b. (owns_of b copies ≡ ws) × Are k b) 0 av kv two fourth (λ b p r. tt) in
-    let four : Extends Always U 0 lv = next Always P S (Are l) 0 kv lv three fifth (λ b p r. leads b r.1.1) in
+    let R : (ℕ → Bool) → Type 0 = λ b. ((truth_of b shared ≡ v) × AreTrue c b) × AreTrue a b in
+    let S : (ℕ → Bool) → Type 0 = λ b. R b × ((owns_of b copies ≡ ws) × AreTrue k b) in
+    let U : (ℕ → Bool) → Type 0 = λ b. S b × AreTrue l b in
+    let T : (ℕ → Bool) → Type 0 = λ b. ((truth_of b shared ≡ v) × (owns_of b copies ≡ ws)) × AreTrue (((c ++ a) ++ k) ++ l) b in
+    let one = next Always Always (λ b. truth_of b shared ≡ v) (AreTrue c) 0 n cv first second (λ b p r. tt) in
+    let two : Extends Always R 0 av = next Always Always (λ b. (truth_of b shared ≡ v) × AreTrue c b) (AreTrue a) 0 cv av one third (λ b p r. tt) in
+    let three : Extends Always S 0 kv = next Always Always R (λ b. (owns_of b copies ≡ ws) × AreTrue k b) 0 av kv two fourth (λ b p r. tt) in
+    let four : Extends Always U 0 lv = next Always P S (AreTrue l) 0 kv lv three fifth (λ b p r. leads b r.1.1) in
     let to : (b : ℕ → Bool) → T b → U b = λ b r.
-    let x = split b ((c ++ a) ++ k) l r.1 in
-    let y = split b (c ++ a) k x.0 in
-    let z = split b c a y.0 in
+    let x = both_true b ((c ++ a) ++ k) l r.1 in
+    let y = both_true b (c ++ a) k x.0 in
+    let z = both_true b c a y.0 in
     ((((r.0.0, z.0), z.1), (r.0.1, y.1)), x.1) in
     let from : (b : ℕ → Bool) → U b → T b = λ b r.
-    ((r.0.0.0.0, r.0.1.0), join b ((c ++ a) ++ k) l (join b (c ++ a) k (join b c a r.0.0.0.1 r.0.0.1) r.0.1.1) r.1) in
+    ((r.0.0.0.0, r.0.1.0), true_both b ((c ++ a) ++ k) l (true_both b (c ++ a) k (true_both b c a r.0.0.0.1 r.0.0.1) r.0.1.1) r.1) in
     weaker Always Always T U 0 lv four (λ a b h p. tt) (λ a b h r. from b (four.within a b h (to a r))) (λ b p. p) (λ b p r. to b r) (λ b p r. from b r)
 
 module _ (dist : List Bool → List Bool → ℕ) (most : ℕ → ℕ) (due : DueCounter) (values_of : List ℕ → ℕ → List ℕ) (levels_due : DueLevels) (laws : AreLaws dist most due values_of levels_due) (p : Profile) (asks : List Formula) (lim : IsLimited p asks) where
@@ -133,10 +139,10 @@ module _ (dist : List Bool → List Bool → ℕ) (most : ℕ → ℕ) (due : Du
       let ad = definitions_are shared c.root asks in_c (subst (λ m. All (λ f. width_of f ≤ m) asks) (sym ln) lim.asks_wide) in
       let kd = copies_made in
       let ld = levels_made in
-      let parts : (b : ℕ → Bool) → Are main.clauses b → ((Are c.clauses b × Are a.clauses b) × Are k.clauses b) × Are l.clauses b = λ b r.
-      let x = split b ((c.clauses ++ a.clauses) ++ k.clauses) l.clauses r in
-      let y = split b (c.clauses ++ a.clauses) k.clauses x.0 in
-      ((split b c.clauses a.clauses y.0, y.1), x.1) in
+      let parts : (b : ℕ → Bool) → AreTrue main.clauses b → ((AreTrue c.clauses b × AreTrue a.clauses b) × AreTrue k.clauses b) × AreTrue l.clauses b = λ b r.
+      let x = both_true b ((c.clauses ++ a.clauses) ++ k.clauses) l.clauses r in
+      let y = both_true b (c.clauses ++ a.clauses) k.clauses x.0 in
+      ((both_true b c.clauses a.clauses y.0, y.1), x.1) in
       record {
         shared_are = refl;
         size = kd.size;

@@ -1,7 +1,7 @@
 -- Steps of the loops that write assumptions.
 use Rattle.std.proofs.Common.{◌≡◌, ℕ, zero, suc, ◌+◌, ◌-◌, ◌<◌, ◌≤◌, Bool, false, List, [], ◌∷◌, ◌++◌, length, map, take, drop, refl, sym, ap, ◌∙◌, subst, arith, append_assoc}
 use Rattle.std.specs.Prelude.{slice_index, slice_index_or}
-use Rattle.std.proofs.lemmas.List.{append-nil, drop_all, drop_more}
+use Rattle.std.proofs.lemmas.List.{get_or_default, append-nil, drop_all, drop_more}
 use Rattle.clause_store.specs.declared.lit.Lit.{Lit}
 use Rattle.clause_store.specs.Lits.{negative_lit, negated, positive_lit}
 use Rattle.formulas.specs.Words.{truth_at}
@@ -65,18 +65,13 @@ better_done lits mid new levels values j level at_value off f lt is at_is off_is
 pub roots_then : (f : Frame) (roots new rest : List Lit) (copies : List AgentCopy) → copies ≡ f.copies → roots ≡ f.constraint ∷ map (λ (c : AgentCopy). c.root) copies → new ≡ roots ++ rest → new ≡ roots_in f ++ rest
 roots_then f roots new rest copies ce re ne = ne ∙ ap (λ x. x ++ rest) (re ∙ ap (λ (cs : List AgentCopy). f.constraint ∷ map (λ (c : AgentCopy). c.root) cs) ce)
 
-default_any : (xs : List Lit) (k : ℕ) (d e : Lit) → k < length xs → slice_index_or xs k d ≡ slice_index_or xs k e
-default_any [] k d e lt = absurd (omega arith)
-default_any (x ∷ xs) zero d e lt = refl
-default_any (x ∷ xs) (suc k) d e lt = default_any xs k d e (omega arith)
-
 -- the roots and the limits, and then the query's root negated
 pub breaker_done : (f : Frame) (a : Assertion) (q : ℕ) (values limits : List ℕ) (asks lits new : List Lit) (x d : Lit) → a ≡ NoBreaker q values → IsProperIn f a → limits ≡ values → asks ≡ f.asks →
     lits ≡ roots_in f ++ each_at_most f.levels limits → x ≡ negated (slice_index_or asks q d) → new ≡ lits ++ x ∷ [] → new ≡ assumed_in f a
 breaker_done f a q values limits asks lits new x d is proper ve ae lits_is x_is new_is =
     let p = subst (λ y. IsProperIn f y) is proper in
     let base : lits ≡ roots_in f ++ each_at_most f.levels values = lits_is ∙ ap (λ y. roots_in f ++ each_at_most f.levels y) ve in
-    let off : x ≡ negated (slice_index_or f.asks q (positive_lit 0)) = x_is ∙ ap (λ y. negated (slice_index_or y q d)) ae ∙ ap negated (default_any f.asks q d (positive_lit 0) p.0) in
+    let off : x ≡ negated (slice_index_or f.asks q (positive_lit 0)) = x_is ∙ ap (λ y. negated (slice_index_or y q d)) ae ∙ ap negated (get_or_default f.asks q d (positive_lit 0) p.0) in
     new_is ∙ ap (λ y. y ++ x ∷ []) base ∙ append_assoc (roots_in f) (each_at_most f.levels values) (x ∷ []) ∙ ap (λ y. roots_in f ++ (each_at_most f.levels values ++ y ∷ [])) off ∙ ap (assumed_in f) (sym is)
 
 -- the roots and the limits, and then the prefix

@@ -4,7 +4,7 @@ use Rattle.std.specs.List.{AllByRecursion}
 use Rattle.clause_store.specs.declared.lit.Lit.{Lit}
 use Rattle.clause_store.specs.Lits.{positive_lit, negative_lit, negated}
 use Rattle.clause_store.specs.Truth.{lit_true}
-use Rattle.clause_store.specs.Extends.{Are}
+use Rattle.clause_store.specs.Truth.{AreTrue}
 use Rattle.aggregators.specs.Levels.{FitLevels}
 use Rattle.merge_encoding.specs.declared.frame.Frame.{Frame}
 use Rattle.merge_encoding.specs.MainDues.{MainDue}
@@ -66,4 +66,4 @@ AllTrue b ls = AllByRecursion (λ l. lit_true b l ≡ true) ls
 
 -- no assignment satisfies the main clauses with the assumptions
 abbrev pub NoneSatisfies : MainDue → List Lit → Type 0
-NoneSatisfies main lits = (b : ℕ → Bool) → Are main.clauses b → AllTrue b lits → ⊥
+NoneSatisfies main lits = (b : ℕ → Bool) → AreTrue main.clauses b → AllTrue b lits → ⊥

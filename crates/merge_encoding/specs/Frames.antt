@@ -4,6 +4,7 @@ use Rattle.std.specs.List.{AllByRecursion, concat}
 use Rattle.clause_store.specs.declared.lit.Lit.{Lit}
 use Rattle.clause_store.specs.Lits.{positive_lit, IsWithin, InRange}
 use Rattle.totalizer.specs.Counter.{AreVarsWithin, AllVarsWithin}
+use Rattle.formulas.specs.Limits.{valuation_limit}
 use Rattle.agent_copies.specs.declared.copy.AgentCopy.{AgentCopy}
 use Rattle.agent_copies.specs.Copy.{CopyDue}
 use Rattle.merge_encoding.specs.declared.frame.Frame.{Frame}
@@ -34,9 +35,9 @@ pub record IsCopyOver (vars n : ℕ) (c : AgentCopy) : Type 0 where
   pub root : IsWithin vars c.root
   pub away : AreVarsWithin vars c.away
 
--- a frame over the variables from 1 to vars, of at most 64 atoms
+-- a frame over the variables from 1 to vars, of as many atoms as a valuation has
 pub record IsFrameOver (vars : ℕ) (f : Frame) : Type 0 where
-  pub few : length f.shared ≤ 64
+  pub few : length f.shared ≤ valuation_limit
   pub shared : InRange vars f.shared
   pub constraint : IsWithin vars f.constraint
   pub asks : InRange vars f.asks

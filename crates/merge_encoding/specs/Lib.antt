@@ -1,3 +1,4 @@
+pub mod Limits
 pub mod MainDues
 pub mod Frames
 pub mod Claims

@@ -2,16 +2,20 @@
 use Rattle.std.specs.Prelude.{◌≡◌, ℕ, ◌≤◌, Bool, List, [], ◌∷◌, ◌++◌, length, map, All, sum}
 use Rattle.std.specs.List.{AllZip}
 use Rattle.clause_store.specs.declared.lit.Lit.{Lit}
-use Rattle.clause_store.specs.Extends.{Extends, Are, Always}
+use Rattle.clause_store.specs.Extends.{Extends, Always}
+use Rattle.clause_store.specs.Truth.{AreTrue}
+use Rattle.formulas.specs.Limits.{valuation_limit}
 use Rattle.formulas.specs.declared.formula.Formula.{Formula}
 use Rattle.formulas.specs.Formulas.{holds, width_of}
 use Rattle.clause_translation.specs.Definition.{definition}
 use Rattle.totalizer.specs.Counter.{Due, AllUnary}
+use Rattle.ranks.specs.Limits.{entry_limit}
 use Rattle.merge_model.specs.declared.problem.Problem.{Problem}
 use Rattle.merge_model.specs.Answers.{profile_of}
 use Rattle.merge_model.specs.Merging.{Profile, repeated}
 use Rattle.agent_copies.specs.Counter.{truth_of}
-use Rattle.agent_copies.specs.Copy.{CopyDue, copy_due, fresh_lits}
+use Rattle.agent_copies.specs.Copy.{CopyDue, copy_due}
+use Rattle.clause_store.specs.Fresh.{fresh_lits}
 use Rattle.aggregators.specs.Levels.{LevelsDue, FitLevels, counts_of}
 
 -- what is due for a counter of a distance, after so many variables, between two lists of literals
@@ -97,11 +101,11 @@ distances_in dist b main = map (dist (truth_of b main.shared)) (owns_of b main.c
 -- what the main clauses ask of a profile and of queries; each problem keeps it
 pub record IsLimited (p : Profile) (asks : List Formula) : Type 0 where
   pub some_atom : 1 ≤ p.atoms
-  pub few_atoms : p.atoms ≤ 64
+  pub few_atoms : p.atoms ≤ valuation_limit
   pub some_base : 1 ≤ length p.bases
   pub lengths : length p.bases ≡ length p.times
   pub each_counts : All (λ t. 1 ≤ t) p.times
-  pub few_times : sum p.times ≤ 64
+  pub few_times : sum p.times ≤ entry_limit
   pub constraint_wide : width_of p.constraint ≤ p.atoms
   pub bases_wide : All (λ f. width_of f ≤ p.atoms) p.bases
   pub asks_wide : All (λ f. width_of f ≤ p.atoms) asks
@@ -116,14 +120,14 @@ pub record IsMain (dist : List Bool → List Bool → ℕ) (top : ℕ) (values_o
   pub size : length main.copies ≡ length p.bases
   pub wide : All (λ (c : CopyDue). length c.own ≡ p.atoms) main.copies
   pub one : (v : List Bool) (ws : List (List Bool)) → length v ≡ p.atoms → length ws ≡ length p.bases → All (λ w. length w ≡ p.atoms) ws →
-      Extends Always (λ b. ((truth_of b main.shared ≡ v) × (owns_of b main.copies ≡ ws)) × Are main.clauses b) 0 main.vars
-  pub constraint_is : (b : ℕ → Bool) → Are main.clauses b → b main.constraint ≡ holds p.constraint (truth_of b main.shared)
-  pub asks_are : (b : ℕ → Bool) → Are main.clauses b → map b main.asks ≡ map (λ ask. holds ask (truth_of b main.shared)) asks
-  pub roots_are : (b : ℕ → Bool) → Are main.clauses b → AllZip (λ base (c : CopyDue). b c.root ≡ holds base (truth_of b c.own)) p.bases main.copies
-  pub counters_in_order : (b : ℕ → Bool) → Are main.clauses b → AllUnary b (aways_of main.copies)
-  pub counters_are : (b : ℕ → Bool) → Are main.clauses b → counts_of b (aways_of main.copies) ≡ distances_in dist b main
-  pub levels_in_order : (b : ℕ → Bool) → Are main.clauses b → AllUnary b main.levels
-  pub levels_are : (b : ℕ → Bool) → Are main.clauses b → counts_of b main.levels ≡ values_of (repeated p.times (distances_in dist b main)) top
+      Extends Always (λ b. ((truth_of b main.shared ≡ v) × (owns_of b main.copies ≡ ws)) × AreTrue main.clauses b) 0 main.vars
+  pub constraint_is : (b : ℕ → Bool) → AreTrue main.clauses b → b main.constraint ≡ holds p.constraint (truth_of b main.shared)
+  pub asks_are : (b : ℕ → Bool) → AreTrue main.clauses b → map b main.asks ≡ map (λ ask. holds ask (truth_of b main.shared)) asks
+  pub roots_are : (b : ℕ → Bool) → AreTrue main.clauses b → AllZip (λ base (c : CopyDue). b c.root ≡ holds base (truth_of b c.own)) p.bases main.copies
+  pub counters_in_order : (b : ℕ → Bool) → AreTrue main.clauses b → AllUnary b (aways_of main.copies)
+  pub counters_are : (b : ℕ → Bool) → AreTrue main.clauses b → counts_of b (aways_of main.copies) ≡ distances_in dist b main
+  pub levels_in_order : (b : ℕ → Bool) → AreTrue main.clauses b → AllUnary b main.levels
+  pub levels_are : (b : ℕ → Bool) → AreTrue main.clauses b → counts_of b main.levels ≡ values_of (repeated p.times (distances_in dist b main)) top
   pub asks_size : length main.asks ≡ length asks
   pub counters_sized : All (λ c. length c ≡ top) (aways_of main.copies)
   pub levels_fit : (us : List ℕ) → length us ≡ length p.bases → All (λ u. u ≤ top) us → FitLevels (values_of (repeated p.times us) top) main.levels

@@ -1,10 +1,13 @@
 // From a problem to its main clauses.
 
 ghost use Rattle.std.specs.Prelude.{◌≡◌, ℕ, ◌+◌, ◌*◌, ◌<◌, ◌≤◌, ◌^◌, [], ◌∷◌, ◌++◌, length, map, sum_by, All, IfOk, OnOk};
+ghost use Rattle.clause_store.specs.Limits.{var_limit};
 ghost use Rattle.clause_store.specs.Lits.{positive_lit, sorted_clause, InRange};
+ghost use Rattle.formulas.specs.Limits.{node_limit};
 ghost use Rattle.formulas.specs.Formulas.{nodes_of, width_of};
 ghost use Rattle.merge_model.specs.Answers.{profile_of};
-ghost use Rattle.agent_copies.specs.Copy.{fresh_lits};
+ghost use Rattle.agent_copies.specs.Limits.{shared_limit};
+ghost use Rattle.merge_encoding.specs.Limits.{copy_room};
 ghost use Rattle.merge_encoding.specs.MainDues.{definitions, copies_due, due_for, IsMain};
 ghost use Rattle.merge_encoding.specs.Frames.{copy_of, frame_of, IsFrameOver, FrameIsDistinct};
 
@@ -19,21 +22,6 @@ use merge_model::{Agent, Problem, Sequence};
 use std::alloc::Global;
 use totalizer::Unary;
 
-// That many fresh literals.
-#[tactic(auto, using(agent_copies::proofs::Steps::fresh_lits_step))]
-fn fresh_lits(alloc: Global, clauses: &mut ClauseList, count: usize) -> Result<Vec<Lit>, NoMemory>
-    requires { clauses.old.vars + count ≤ 2 ^ 31 }
-    ensures lits { IfOk result (λ lits. lits.items ≡ fresh_lits clauses.old.vars count) }
-    ensures vars { OnOk result (clauses.new.vars ≡ clauses.old.vars + count) }
-    ensures list { clauses.new.list ≡ clauses.old.list }
-{
-    let mut lits = Vec::with_capacity(alloc, count)?;
-    for i in 0..count {
-        lits.push(clauses.fresh())?;
-    }
-    Ok(lits)
-}
-
 // Defines formulas over the same literals, one after another: their roots.
 fn define_all(
     alloc: Global,
@@ -41,8 +29,7 @@ fn define_all(
     formulas: &[Formula],
     atoms: &[Lit],
 ) -> Result<Vec<Lit>, NoMemory>
-    requires few { sum_by nodes_of formulas.now ≤ 4096 }
-    requires room { clauses.old.vars + 4096 ≤ 2 ^ 31 }
+    requires room { clauses.old.vars + sum_by nodes_of formulas.now ≤ var_limit }
     requires known { All (λ f. width_of f ≤ length atoms.now) formulas.now }
     requires in_range { InRange clauses.old.vars atoms.now }
     ensures roots { IfOk result (λ roots. roots.items ≡ map positive_lit (definitions atoms.now clauses.old.vars formulas.now).roots) }
@@ -57,7 +44,7 @@ fn define_all(
     Ok(roots)
 }
 
-// Copies the agents, one after another. A copy takes at most 64 + 4,096 + 2^16 variables.
+// Copies the agents, one after another.
 fn copy_all<D: Counted>(
     alloc: Global,
     clauses: &mut ClauseList,
@@ -66,14 +53,14 @@ fn copy_all<D: Counted>(
     distance: &D,
 ) -> Result<Vec<AgentCopy>, NoMemory>
     requires some { 1 ≤ length shared.now }
-    requires few { length shared.now ≤ 64 }
+    requires few { length shared.now ≤ shared_limit }
     requires shared_in { InRange clauses.old.vars shared.now }
-    requires few_nodes { All (λ agent. nodes_of agent.base ≤ 4096) agents.now }
+    requires few_nodes { All (λ agent. nodes_of agent.base ≤ node_limit) agents.now }
     requires known { All (λ agent. width_of agent.base ≤ length shared.now) agents.now }
-    requires room { clauses.old.vars + 69696 * length agents.now ≤ 2 ^ 31 }
+    requires room { clauses.old.vars + copy_room * length agents.now ≤ var_limit }
     ensures copies { IfOk result (λ copies. copies.items ≡ map copy_of (copies_due (D.due distance.now) shared.now clauses.old.vars (map (λ agent. agent.base) agents.now)).copies) }
     ensures vars { OnOk result (clauses.new.vars ≡ (copies_due (D.due distance.now) shared.now clauses.old.vars (map (λ agent. agent.base) agents.now)).vars) }
-    ensures room { OnOk result (clauses.new.vars ≤ clauses.old.vars + 69696 * length agents.now) }
+    ensures room { OnOk result (clauses.new.vars ≤ clauses.old.vars + copy_room * length agents.now) }
     ensures list { OnOk result (clauses.new.list ≡ clauses.old.list ++ map sorted_clause (copies_due (D.due distance.now) shared.now clauses.old.vars (map (λ agent. agent.base) agents.now)).clauses) }
 {
     let mut copies = Vec::new(alloc);
@@ -118,7 +105,7 @@ fn encoded<D: Counted, A: Levelled>(
     ensures list { IfOk result (λ main. main.clauses.list ≡ map sorted_clause (due_for (D.due distance.now) (A.levels_due aggregator.now) problem.now).clauses) }
 {
     let mut clauses = ClauseList::new(alloc);
-    let shared = fresh_lits(alloc, &mut clauses, problem.atoms.len() as usize)?;
+    let shared = clauses.fresh_lits(problem.atoms.len() as usize)?;
     let constraint = define(&mut clauses, &problem.constraint, &shared)?;
     let asks = define_all(alloc, &mut clauses, problem.asks.as_slice(), &shared)?;
     let copies = copy_all(

@@ -1,7 +1,7 @@
 // Laws of the main clauses, for every distance and aggregator.
 
 ghost use Rattle.std.specs.Prelude.{◌≡◌, ◌↔◌, ℕ, suc, Bool, List, take};
-ghost use Rattle.clause_store.specs.Extends.{Are};
+ghost use Rattle.clause_store.specs.Truth.{AreTrue};
 ghost use Rattle.formulas.specs.declared.formula.Formula.{Formula as Tree};
 ghost use Rattle.merge_model.specs.Merging.{Profile};
 ghost use Rattle.agent_copies.specs.Counter.{truth_of};
@@ -34,7 +34,7 @@ pub fn claim_law<D: Counted, A: Levelled>(distance: &D, aggregator: &A)
         let main = main_due (D.due distance.now) (A.levels_due aggregator.now) p asks in IsProper main claim →
         (IsTrueThat (D.dist distance.now) (D.most distance.now p.atoms) (A.levels_of aggregator.now) p asks claim ↔ NoneSatisfies main (assumed main claim)) }
     ensures broken { (p : Profile) (asks : List Tree) (claim : Assertion) (b : ℕ → Bool) → IsLimited p asks →
-        let main = main_due (D.due distance.now) (A.levels_due aggregator.now) p asks in IsProper main claim → Are main.clauses b → AllTrue b (assumed main claim) →
+        let main = main_due (D.due distance.now) (A.levels_due aggregator.now) p asks in IsProper main claim → AreTrue main.clauses b → AllTrue b (assumed main claim) →
         Breaks (D.dist distance.now) (D.most distance.now p.atoms) (A.levels_of aggregator.now) p asks claim (truth_of b main.shared) (owns_of b main.copies) }
 {
     let _distance = distance;

@@ -1,10 +1,12 @@
 // What an assignment says through the frame.
 
-ghost use Rattle.std.specs.Prelude.{◌≡◌, ◌<◌, ◌≤◌, ◌^◌, length, IfOk};
+ghost use Rattle.std.specs.Prelude.{◌≡◌, ◌<◌, ◌≤◌, length, IfOk};
+ghost use Rattle.clause_store.specs.Limits.{var_limit};
 ghost use Rattle.clause_store.specs.Lits.{IsWithin, InRange};
 ghost use Rattle.clause_store.specs.Truth.{lit_true, values_of};
 ghost use Rattle.totalizer.specs.Counter.{count_of, AreVarsWithin, AllVarsWithin};
 ghost use Rattle.agent_copies.specs.Counter.{truth_of};
+ghost use Rattle.formulas.specs.Limits.{valuation_limit};
 ghost use Rattle.aggregators.specs.Levels.{counts_of};
 
 use crate::frame::Frame;
@@ -53,7 +55,7 @@ fn is_true(assignment: &Assignment, lit: Lit) -> bool
 
 // The values of the literals, as a valuation.
 fn valuation_of(assignment: &Assignment, lits: &[Lit]) -> Valuation
-    requires few { length lits.now ≤ 64 }
+    requires few { length lits.now ≤ valuation_limit }
     requires within { InRange (length assignment.now) lits.now }
     ensures { result ≡ truth_of (values_of assignment.now) lits.now }
 {
@@ -82,7 +84,7 @@ fn counts_of(
 
 // How many outputs of a counter are true.
 fn count(assignment: &Assignment, outputs: &[u32]) -> u32
-    requires few { length outputs.now ≤ 2 ^ 31 }
+    requires few { length outputs.now ≤ var_limit }
     requires within { AreVarsWithin (length assignment.now) outputs.now }
     ensures { result ≡ count_of (values_of assignment.now) outputs.now }
 {

@@ -1,6 +1,6 @@
 use Rattle.std.proofs.Common.{length, List, ℕ, sym, ◌∙◌, subst}
 use Rattle.totalizer.specs.Counter.{AreVarsWithin}
-use Rattle.merge_encoding.proofs.Places.{level_at}
+use Rattle.merge_encoding.proofs.Ranges.{level_at}
 use Rattle.merge_encoding.proofs.reading.counts_of.Goals as goal
 
 pub count-requires-clause-within : goal.count-requires-clause-within
