@@ -6,7 +6,7 @@ use Rattle.clause_store.specs.Truth.{AreTrue, values_of}
 use Rattle.clause_store.proofs.Numbered.{get_seam}
 use Rattle.derivation_log.proofs.Steps.{clauses_append}
 use Rattle.derivation_log.specs.Logs.{Log, known_of, clauses_of}
-use Rattle.log_checker.specs.Refutes.{Refutes}
+use Rattle.clause_store.specs.Refutes.{Refutes}
 use Rattle.cdcl_core.specs.Replies.{IsAnswered, IsJust, IsSolution, IsClaimed, IsGrown, IsDecided}
 use Rattle.cdcl_core.specs.declared.reply.Reply.{Reply as Told}
 use Rattle.cdcl_core.specs.declared.reply.Reply.TheVariants as told

@@ -6,7 +6,7 @@ use Rattle.agent_copies.specs.declared.copy.AgentCopy.{AgentCopy}
 use Rattle.agent_copies.specs.Counter.{truth_of}
 use Rattle.aggregators.specs.Levels.{counts_of}
 use Rattle.derivation_log.specs.Logs.{Log, known_of}
-use Rattle.log_checker.specs.Refutes.{Refutes}
+use Rattle.clause_store.specs.Refutes.{Refutes}
 use Rattle.cdcl_core.specs.Replies.{IsGrown, IsLonger}
 use Rattle.merge_encoding.specs.declared.frame.Frame.{Frame}
 use Rattle.merge_encoding.specs.Assumptions.{AllTrue}
