@@ -31,9 +31,12 @@ fn define_all(
     requires room { clauses.old.vars + sum_by nodes_of formulas.now ≤ var_limit }
     requires known { All (λ f. width_of f ≤ length atoms.now) formulas.now }
     requires in_range { InRange clauses.old.vars atoms.now }
-    ensures roots { IfOk result (λ roots. roots.items ≡ map positive_lit (definitions atoms.now clauses.old.vars formulas.now).roots) }
-    ensures vars { OnOk result (clauses.new.vars ≡ (definitions atoms.now clauses.old.vars formulas.now).vars) }
-    ensures list { OnOk result (clauses.new.list ≡ clauses.old.list ++ map sorted_clause (definitions atoms.now clauses.old.vars formulas.now).clauses) }
+    ensures roots { IfOk result (λ roots. roots.items ≡
+        map positive_lit (definitions atoms.now clauses.old.vars formulas.now).roots) }
+    ensures vars { OnOk result (clauses.new.vars ≡
+        (definitions atoms.now clauses.old.vars formulas.now).vars) }
+    ensures list { OnOk result (clauses.new.list ≡ clauses.old.list ++
+        map sorted_clause (definitions atoms.now clauses.old.vars formulas.now).clauses) }
 {
     let mut roots = Vec::new(alloc);
     for formula in formulas {
@@ -57,10 +60,17 @@ fn copy_all<D: Counted>(
     requires few_nodes { All (λ agent. nodes_of agent.base ≤ node_limit) agents.now }
     requires known { All (λ agent. width_of agent.base ≤ length shared.now) agents.now }
     requires room { clauses.old.vars + copy_room * length agents.now ≤ var_limit }
-    ensures copies { IfOk result (λ copies. copies.items ≡ map copy_of (copies_due (D.due distance.now) shared.now clauses.old.vars (map (λ agent. agent.base) agents.now)).copies) }
-    ensures vars { OnOk result (clauses.new.vars ≡ (copies_due (D.due distance.now) shared.now clauses.old.vars (map (λ agent. agent.base) agents.now)).vars) }
-    ensures room { OnOk result (clauses.new.vars ≤ clauses.old.vars + copy_room * length agents.now) }
-    ensures list { OnOk result (clauses.new.list ≡ clauses.old.list ++ map sorted_clause (copies_due (D.due distance.now) shared.now clauses.old.vars (map (λ agent. agent.base) agents.now)).clauses) }
+    ensures copies { IfOk result (λ copies. copies.items ≡ map copy_of
+        (copies_due (D.due distance.now) shared.now clauses.old.vars
+        (map (λ agent. agent.base) agents.now)).copies) }
+    ensures vars { OnOk result (clauses.new.vars ≡
+        (copies_due (D.due distance.now) shared.now clauses.old.vars
+        (map (λ agent. agent.base) agents.now)).vars) }
+    ensures room { OnOk result (clauses.new.vars ≤
+        clauses.old.vars + copy_room * length agents.now) }
+    ensures list { OnOk result (clauses.new.list ≡ clauses.old.list ++ map sorted_clause
+        (copies_due (D.due distance.now) shared.now clauses.old.vars
+        (map (λ agent. agent.base) agents.now)).clauses) }
 {
     let mut copies = Vec::new(alloc);
     for agent in agents {
@@ -99,9 +109,12 @@ fn encoded<D: Counted, A: Levelled>(
     distance: &D,
     aggregator: &A,
 ) -> Result<Main, NoMemory>
-    ensures frame { IfOk result (λ main. main.frame ≡ frame_of (due_for (D.due distance.now) (A.levels_due aggregator.now) problem.now)) }
-    ensures vars { IfOk result (λ main. main.clauses.vars ≡ (due_for (D.due distance.now) (A.levels_due aggregator.now) problem.now).vars) }
-    ensures list { IfOk result (λ main. main.clauses.list ≡ map sorted_clause (due_for (D.due distance.now) (A.levels_due aggregator.now) problem.now).clauses) }
+    ensures frame { IfOk result (λ main. main.frame ≡
+        frame_of (due_for (D.due distance.now) (A.levels_due aggregator.now) problem.now)) }
+    ensures vars { IfOk result (λ main. main.clauses.vars ≡
+        (due_for (D.due distance.now) (A.levels_due aggregator.now) problem.now).vars) }
+    ensures list { IfOk result (λ main. main.clauses.list ≡ map sorted_clause
+        (due_for (D.due distance.now) (A.levels_due aggregator.now) problem.now).clauses) }
 {
     let mut clauses = ClauseList::new(alloc);
     let shared = clauses.fresh_lits(problem.atoms.len() as usize)?;
@@ -136,14 +149,19 @@ pub fn encode<D: Counted, A: Levelled>(
     distance: &D,
     aggregator: &A,
 ) -> Result<Main, NoMemory>
-    ensures frame { IfOk result (λ main. main.frame ≡ frame_of (due_for (D.due distance.now) (A.levels_due aggregator.now) problem.now)) }
-    ensures vars { IfOk result (λ main. main.clauses.vars ≡ (due_for (D.due distance.now) (A.levels_due aggregator.now) problem.now).vars) }
-    ensures list { IfOk result (λ main. main.clauses.list ≡ map sorted_clause (due_for (D.due distance.now) (A.levels_due aggregator.now) problem.now).clauses) }
+    ensures frame { IfOk result (λ main. main.frame ≡
+        frame_of (due_for (D.due distance.now) (A.levels_due aggregator.now) problem.now)) }
+    ensures vars { IfOk result (λ main. main.clauses.vars ≡
+        (due_for (D.due distance.now) (A.levels_due aggregator.now) problem.now).vars) }
+    ensures list { IfOk result (λ main. main.clauses.list ≡ map sorted_clause
+        (due_for (D.due distance.now) (A.levels_due aggregator.now) problem.now).clauses) }
     ensures over { IfOk result (λ main. IsFrameOver main.clauses.vars main.frame) }
     ensures distinct { IfOk result (λ main. FrameIsDistinct main.frame) }
 
     // what the clauses mean
-    ensures means { IsMain (D.dist distance.now) (D.most distance.now (length problem.now.atoms)) (A.levels_of aggregator.now) (profile_of problem.now) problem.now.asks (due_for (D.due distance.now) (A.levels_due aggregator.now) problem.now) }
+    ensures means { IsMain (D.dist distance.now) (D.most distance.now (length problem.now.atoms))
+        (A.levels_of aggregator.now) (profile_of problem.now) problem.now.asks
+        (due_for (D.due distance.now) (A.levels_due aggregator.now) problem.now) }
 {
     encoded(alloc, problem, distance, aggregator)
 }
