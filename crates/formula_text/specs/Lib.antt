@@ -1,1 +1,2 @@
 pub mod CanonicalText
+pub mod ValuationWords

@@ -18,7 +18,7 @@ use Rattle.merge_cli.specs.Refusals.{SaysStop}
 use Rattle.merge_cli.specs.declared.reply.Reply.{Reply}
 
 pub problem_answered : (distance : DistanceName) (aggregator : AggregatorName) (problem : Problem) (answer : Answer) (status : ℕ) (text : List ℕ)
-    → IsRight (dist_named distance) (rank_named aggregator) problem answer ⊎ IsNamed problem answer
+    → IsRight (dist_named distance problem.atoms) (rank_named aggregator) problem answer ⊎ IsNamed problem answer
     → status ≡ status_of answer → text ≡ answer_report distance aggregator problem answer
     → ProblemAnswers distance aggregator problem status text
 problem_answered d a p (Merged best measure verdicts) s t (inl right) status text =
@@ -43,9 +43,9 @@ named_has p (Inconsistent constraint agents) named = names_lack (profile_of p) c
 named_has p GaveUp named = absurd named
 
 pub right_lacks_none : (distance : DistanceName) (aggregator : AggregatorName) (problem : Problem) (answer : Answer)
-    → IsRight (dist_named distance) (rank_named aggregator) problem answer → LacksModel (profile_of problem) → ⊥
+    → IsRight (dist_named distance problem.atoms) (rank_named aggregator) problem answer → LacksModel (profile_of problem) → ⊥
 right_lacks_none d a p (Merged best measure verdicts) right lacks =
-    right_has (dist_named d) (rank_named a) (profile_of p) p.asks best measure verdicts right lacks
+    right_has (dist_named d p.atoms) (rank_named a) (profile_of p) p.asks best measure verdicts right lacks
 right_lacks_none d a p (Inconsistent constraint agents) right lacks = right
 right_lacks_none d a p GaveUp right lacks = right
 

@@ -1,3 +1,4 @@
 pub mod FirstWords
 pub mod Numerals
 pub mod Spelling
+pub mod Growth

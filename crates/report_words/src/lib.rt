@@ -3,6 +3,10 @@
 
 mod numbers;
 mod words;
+mod writing;
 
 pub use numbers::{WideLit, literal_of, number_of};
 pub use words::{Words, first_of};
+pub use writing::{
+    write_bytes, write_literal, write_number, write_numbers, write_pair, write_word,
+};
