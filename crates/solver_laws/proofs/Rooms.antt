@@ -3,7 +3,6 @@ use Rattle.std.proofs.Common.{◌≡◌, ◌≢◌, ℕ, ◌+◌, ◌<◌, ◌�
 use Rattle.std.specs.Prelude.{nat_lt, nat_le, ◌||◌, ◌⊎◌, Contains}
 use Rattle.std.proofs.lemmas.Bool.{cases_lt, cases_eq, cases_Bool, false≢true}
 use Rattle.std.proofs.Math.Bool.{beq}
-use Rattle.std.proofs.lemmas.List.Sums.{sum_by-cons}
 use Rattle.clause_store.specs.declared.lit.Lit.{Lit}
 use Rattle.clause_store.specs.Lits.{rank_of, negated, same_lit, without, with_lit, joined, resolvent, IsBelow, Ascends, has, Includes}
 use Rattle.clause_store.proofs.Lits.{rank_lit}
