@@ -1,7 +1,7 @@
 -- Small clauses that hold, and go on to hold while the trail grows.
 use Rattle.std.proofs.Common.{◌≡◌, ℕ, ◌+◌, ◌-◌, ◌<◌, ◌≤◌, true, List, [], ◌∷◌, ◌++◌, length, sym, ap, ◌∙◌, arith, get_or, Option, Some, None, inl, inr, subst, drop, min, length-append}
 use Rattle.std.proofs.lemmas.Bool.{cases_lt}
-use Rattle.std.proofs.lemmas.List.{get_or-drop, length-drop}
+use Rattle.std.proofs.lemmas.List.{get_or-drop, length-drop, get_or_append_left, get_or_default}
 use Rattle.std.proofs.lemmas.List.Elements.{All-drop}
 use Rattle.std.specs.Prelude.{All, Contains, IfNone, ◌⊎◌}
 use Rattle.clause_store.specs.declared.lit.Lit.{Lit}
@@ -12,7 +12,7 @@ use Rattle.watch_lists.specs.Watches.{HoldFirst, AreSettled, IsKept, IsHeld, IsN
 use Rattle.watch_lists.proofs.Scans.{complete_all}
 use Rattle.watch_lists.proofs.Places.{value_places, oldest_prefix, oldest_places, prefix_length, same_length}
 use Rattle.watch_lists.proofs.Guards.{oldest_all, oldest_part, value_up, grows_value}
-use Rattle.watch_lists.proofs.Rests.{room_short, stand_clause, complete_at, get_nat, front}
+use Rattle.watch_lists.proofs.Rests.{room_short, stand_clause, complete_at}
 
 -- what is true stays true, so what holds goes on to hold
 pub hold_up : (known : List (List Lit)) (small : List ℕ) (settled : ℕ) (es fs : List Entry) → HoldFirst known small settled es →
@@ -31,7 +31,7 @@ hold_places known small settled es fs e h = hold_up known small settled es fs h 
 -- the clause of a number that is attached stands in both lists
 same_clause : (old known : List (List Lit)) (numbers : List ℕ) (n : ℕ) → StandIn known (attached_of old numbers) → Contains numbers n → clause_at known n ≡ clause_at old n
 same_clause old known numbers n s c =
-    let e : get_or numbers c.0 0 ≡ n = get_nat numbers c.0 0 n c.1 ∙ c.2 in
+    let e : get_or numbers c.0 0 ≡ n = get_or_default numbers c.0 0 n c.1 ∙ c.2 in
     ap (clause_at known) (sym e) ∙ stand_clause old known numbers s c.0 c.1 ∙ ap (clause_at old) e
 
 pub hold_stand : (old known : List (List Lit)) (numbers small : List ℕ) (settled : ℕ) (es : List Entry) → StandIn known (attached_of old numbers) →
@@ -46,7 +46,7 @@ pub hold_noted : (known : List (List Lit)) (n : ℕ) (small new : List ℕ) (set
 hold_noted known n small new settled es (inl a) part h =
     subst (λ (xs : List ℕ). HoldFirst known xs settled es) (sym a.1)
     (λ i lt two.
-      let e : get_or (small ++ n ∷ []) i 0 ≡ get_or small i 0 = front small (n ∷ []) i 0 (omega (arith, lt, part)) in
+      let e : get_or (small ++ n ∷ []) i 0 ≡ get_or small i 0 = get_or_append_left small (n ∷ []) 0 i (omega (arith, lt, part)) in
       subst (λ (m : ℕ). 2 ≤ room_of es (clause_at known m)) (sym e) (h i lt (subst (λ (m : ℕ). length (clause_at known m) < 2) e two)))
 hold_noted known n small new settled es (inr a) part h = subst (λ (xs : List ℕ). HoldFirst known xs settled es) (sym a.1) h
 
@@ -55,7 +55,7 @@ pub hold_complete : (known : List (List Lit)) (numbers small : List ℕ) (es : L
     All (λ n. Contains numbers n) small → HoldFirst known small (length small) es
 hold_complete known numbers small es h of i lt two =
     let c = of i 0 lt in
-    let e : get_or numbers c.0 0 ≡ get_or small i 0 = get_nat numbers c.0 0 (get_or small i 0) c.1 ∙ c.2 in
+    let e : get_or numbers c.0 0 ≡ get_or small i 0 = get_or_default numbers c.0 0 (get_or small i 0) c.1 ∙ c.2 in
     subst (λ (m : ℕ). 2 ≤ room_of es (clause_at known m)) e (complete_at known numbers es h c.0 c.1)
 
 -- the first ones hold, and the others were gone through
@@ -73,7 +73,7 @@ hold_rest known small settled es h rest i lt two =
 
 pub hold_one : (known : List (List Lit)) (small : List ℕ) (es : List Entry) (n : ℕ) → HoldFirst known small (length small) es → Contains small n → length (clause_at known n) < 2 → 2 ≤ room_of es (clause_at known n)
 hold_one known small es n h c two =
-    let e : get_or small c.0 0 ≡ n = get_nat small c.0 0 n c.1 ∙ c.2 in
+    let e : get_or small c.0 0 ≡ n = get_or_default small c.0 0 n c.1 ∙ c.2 in
     subst (λ (m : ℕ). 2 ≤ room_of es (clause_at known m)) e (h c.0 c.1 (subst (λ (m : ℕ). length (clause_at known m) < 2) (sym e) two))
 
 -- the small clauses hold and the others leave room

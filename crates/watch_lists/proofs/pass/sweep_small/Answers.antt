@@ -1,18 +1,18 @@
 use Rattle.std.proofs.Common.{◌≡◌, ℕ, ◌-◌, List, length, get_or, drop, take, subst, Option, arith}
-use Rattle.std.proofs.lemmas.List.{take_all, length-drop}
+use Rattle.std.proofs.lemmas.List.{take_all, length-drop, get_or_default}
 use Rattle.std.proofs.lemmas.List.Elements.{All-drop}
 use Rattle.std.specs.Prelude.{All, Contains, IfNone, IfSome}
 use Rattle.clause_store.specs.declared.lit.Lit.{Lit}
 use Rattle.watch_lists.specs.declared.entry.Entry.{Entry}
 use Rattle.watch_lists.specs.Trace.{attached_of, IsComplete, IsFalsified, Grows}
 use Rattle.watch_lists.specs.Watches.{HoldFirst}
-use Rattle.watch_lists.proofs.Rests.{get_nat, grows_sub, found_sub, if_none}
+use Rattle.watch_lists.proofs.Rests.{grows_sub, found_sub, if_none}
 use Rattle.watch_lists.proofs.Settled.{hold_grows, hold_rest}
 use Rattle.watch_lists.proofs.pass.sweep_small.Goals as goal
 
 -- what is left of a row is of it
 left_of : (n : ℕ) (xs : List ℕ) → All (λ x. Contains xs x) (drop n xs)
-left_of n xs = All-drop (λ x. Contains xs x) n xs (λ k d within. (k, within, get_nat xs k (get_or xs k d) d within))
+left_of n xs = All-drop (λ x. Contains xs x) n xs (λ k d within. (k, within, get_or_default xs k (get_or xs k d) d within))
 
 left_is : (n : ℕ) (xs : List ℕ) → take (length xs - n) (drop n xs) ≡ drop n xs
 left_is n xs = take_all (length xs - n) (drop n xs) (omega (arith, length-drop n xs))
