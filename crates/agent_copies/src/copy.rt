@@ -6,8 +6,9 @@ ghost use Rattle.clause_store.specs.Grew.{Grew};
 ghost use Rattle.clause_store.specs.Fresh.{fresh_lits};
 ghost use Rattle.clause_store.specs.Limits.{var_limit};
 ghost use Rattle.formulas.specs.Formulas.{nodes_of, width_of};
+ghost use Rattle.formulas.specs.Limits.{valuation_limit};
 ghost use Rattle.agent_copies.specs.Copy.{copy_due, IsCopy};
-ghost use Rattle.agent_copies.specs.Limits.{counter_room, shared_limit};
+ghost use Rattle.agent_copies.specs.Limits.{counter_room};
 
 use crate::counted::Counted;
 use clause_store::{ClauseList, Lit};
@@ -41,7 +42,7 @@ pub fn copy_agent<D: Counted>(
     distance: &D,
 ) -> Result<AgentCopy, NoMemory>
     requires some { 1 ≤ length shared.now }
-    requires few { length shared.now ≤ shared_limit }
+    requires few { length shared.now ≤ valuation_limit }
     requires shared_in { InRange clauses.old.vars shared.now }
     requires known { width_of base.now ≤ length shared.now }
     requires room { clauses.old.vars + length shared.now + nodes_of base.now + counter_room ≤ var_limit }
