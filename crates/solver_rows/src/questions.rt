@@ -7,8 +7,8 @@ use clause_store::{ClauseList, Lit};
 use derivation_log::{Derivations, StepKind};
 use log_checker::{check_step, refutes};
 use std::alloc::Global;
-use std::test::Fail;
 use std::process::Abort;
+use std::test::Fail;
 use watch_lists::Propagator;
 
 fn yes(var: u32) -> Lit
@@ -163,7 +163,10 @@ fn first_under_third<P: Propagator + Drop>(solver: &mut Solver<P>) -> Result<Opt
     }
 }
 
-pub fn refutes_assumptions<P: Propagator + Drop>(rt: &impl Abort, alloc: Global) -> Result<(), Fail> {
+pub fn refutes_assumptions<P: Propagator + Drop>(
+    rt: &impl Abort,
+    alloc: Global,
+) -> Result<(), Fail> {
     let mut solver: Solver<P> = Solver::new(alloc, fourteen_clauses(alloc)?)?;
     let assumptions = [no(1), yes(7), no(8)];
     let reply = solver.ask(&assumptions, 10)?;
@@ -172,7 +175,10 @@ pub fn refutes_assumptions<P: Propagator + Drop>(rt: &impl Abort, alloc: Global)
     Ok(())
 }
 
-pub fn finds_an_assignment<P: Propagator + Drop>(rt: &impl Abort, alloc: Global) -> Result<(), Fail> {
+pub fn finds_an_assignment<P: Propagator + Drop>(
+    rt: &impl Abort,
+    alloc: Global,
+) -> Result<(), Fail> {
     let mut solver: Solver<P> = Solver::new(alloc, fourteen_clauses(alloc)?)?;
     assert_eq!(rt; first_under_third(&mut solver)?, Some(false));
     let log = solver.into_derivations();
@@ -187,7 +193,10 @@ pub fn spends_its_budget<P: Propagator + Drop>(rt: &impl Abort, alloc: Global) -
     Ok(())
 }
 
-pub fn refutes_what_is_never_true<P: Propagator + Drop>(rt: &impl Abort, alloc: Global) -> Result<(), Fail> {
+pub fn refutes_what_is_never_true<P: Propagator + Drop>(
+    rt: &impl Abort,
+    alloc: Global,
+) -> Result<(), Fail> {
     let mut solver: Solver<P> = Solver::new(alloc, all_of_two(alloc)?)?;
     let _ = solver.ask(&[], 1)?;
     let reply = solver.ask(&[], 10)?;
@@ -205,7 +214,10 @@ fn is_first_copied(alloc: Global, log: &Derivations) -> Result<bool, Fail> {
     Ok(step.first == 0 && step.chain.as_slice().is_empty())
 }
 
-pub fn claims_an_empty_clause<P: Propagator + Drop>(rt: &impl Abort, alloc: Global) -> Result<(), Fail> {
+pub fn claims_an_empty_clause<P: Propagator + Drop>(
+    rt: &impl Abort,
+    alloc: Global,
+) -> Result<(), Fail> {
     let mut list = ClauseList::new(alloc);
     put(&mut list, &[])?;
     let mut solver: Solver<P> = Solver::new(alloc, list)?;
