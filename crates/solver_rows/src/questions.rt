@@ -1,6 +1,6 @@
 // Worked questions to the solver over any propagator, with each step of its logs judged.
 ghost use Rattle.std.specs.Prelude.{◌≡◌, OnOk, IfOk};
-ghost use Rattle.clause_store.specs.Lits.{InRange, negative_lit, positive_lit};
+ghost use Rattle.clause_store.specs.Lits.{InRange};
 
 use cdcl_core::{Reply, Solver};
 use clause_store::{ClauseList, Lit};
@@ -10,24 +10,6 @@ use std::alloc::Global;
 use std::process::Abort;
 use std::test::Fail;
 use watch_lists::Propagator;
-
-fn yes(var: u32) -> Lit
-    ensures { result ≡ positive_lit var }
-{
-    Lit {
-        var,
-        positive: true,
-    }
-}
-
-fn no(var: u32) -> Lit
-    ensures { result ≡ negative_lit var }
-{
-    Lit {
-        var,
-        positive: false,
-    }
-}
 
 fn put(list: &mut ClauseList, lits: &[Lit]) -> Result<(), Fail>
     requires in_range { InRange list.old.vars lits.now }
@@ -46,48 +28,60 @@ fn eight_variables(alloc: Global) -> ClauseList
     list
 }
 
-// The variables 1, 2 and 4 are equal, and 3 and 5 are their opposite.
+/// The variables 1, 2 and 4 are equal, and 3 and 5 are their opposite.
 fn eight_clauses(alloc: Global) -> Result<ClauseList, Fail>
     ensures { IfOk result (λ list. list.vars ≡ 8) }
 {
     let mut list = eight_variables(alloc);
-    put(&mut list, &[yes(1), no(2)])?;
-    put(&mut list, &[no(1), yes(2)])?;
-    put(&mut list, &[no(2), no(3)])?;
-    put(&mut list, &[yes(2), yes(3)])?;
-    put(&mut list, &[yes(1), no(4)])?;
-    put(&mut list, &[no(1), yes(4)])?;
-    put(&mut list, &[no(4), no(5)])?;
-    put(&mut list, &[yes(4), yes(5)])?;
+    put(&mut list, &[Lit::positive(1), Lit::negative(2)])?;
+    put(&mut list, &[Lit::negative(1), Lit::positive(2)])?;
+    put(&mut list, &[Lit::negative(2), Lit::negative(3)])?;
+    put(&mut list, &[Lit::positive(2), Lit::positive(3)])?;
+    put(&mut list, &[Lit::positive(1), Lit::negative(4)])?;
+    put(&mut list, &[Lit::negative(1), Lit::positive(4)])?;
+    put(&mut list, &[Lit::negative(4), Lit::negative(5)])?;
+    put(&mut list, &[Lit::positive(4), Lit::positive(5)])?;
     Ok(list)
 }
 
-// Beside these, 6 and 7 are equal, and 8 is whether 1 and 6 differ.
+/// Beside these, 6 and 7 are equal, and 8 is whether 1 and 6 differ.
 fn fourteen_clauses(alloc: Global) -> Result<ClauseList, Fail>
     ensures { IfOk result (λ list. list.vars ≡ 8) }
 {
     let mut list = eight_clauses(alloc)?;
-    put(&mut list, &[yes(6), no(7)])?;
-    put(&mut list, &[no(6), yes(7)])?;
-    put(&mut list, &[yes(1), yes(6), no(8)])?;
-    put(&mut list, &[no(1), no(6), no(8)])?;
-    put(&mut list, &[no(1), yes(6), yes(8)])?;
-    put(&mut list, &[yes(1), no(6), yes(8)])?;
+    put(&mut list, &[Lit::positive(6), Lit::negative(7)])?;
+    put(&mut list, &[Lit::negative(6), Lit::positive(7)])?;
+    put(
+        &mut list,
+        &[Lit::positive(1), Lit::positive(6), Lit::negative(8)],
+    )?;
+    put(
+        &mut list,
+        &[Lit::negative(1), Lit::negative(6), Lit::negative(8)],
+    )?;
+    put(
+        &mut list,
+        &[Lit::negative(1), Lit::positive(6), Lit::positive(8)],
+    )?;
+    put(
+        &mut list,
+        &[Lit::positive(1), Lit::negative(6), Lit::positive(8)],
+    )?;
     Ok(list)
 }
 
-// The four clauses of two literals over two variables: no assignment makes all of them true.
+/// The four clauses of two literals over two variables: no assignment makes all of them true.
 fn all_of_two(alloc: Global) -> Result<ClauseList, Fail> {
     let mut list = ClauseList::new(alloc);
     let _ = (list.fresh(), list.fresh());
-    put(&mut list, &[yes(1), yes(2)])?;
-    put(&mut list, &[no(1), yes(2)])?;
-    put(&mut list, &[yes(1), no(2)])?;
-    put(&mut list, &[no(1), no(2)])?;
+    put(&mut list, &[Lit::positive(1), Lit::positive(2)])?;
+    put(&mut list, &[Lit::negative(1), Lit::positive(2)])?;
+    put(&mut list, &[Lit::positive(1), Lit::negative(2)])?;
+    put(&mut list, &[Lit::negative(1), Lit::negative(2)])?;
     Ok(list)
 }
 
-// Whether the number is of a step of this kind with so many literals.
+/// Whether the number is of a step of this kind with so many literals.
 fn is_step(log: &Derivations, number: u64, kind: StepKind, width: usize) -> bool {
     log.main_len() <= number
         && number < log.known().len()
@@ -95,7 +89,7 @@ fn is_step(log: &Derivations, number: u64, kind: StepKind, width: usize) -> bool
         && log.known().clause(number).len() == width
 }
 
-// No clauses over so many variables, at most 1000.
+/// No clauses over so many variables, at most 1000.
 fn with_variables(alloc: Global, count: u32) -> ClauseList {
     let mut list = ClauseList::new(alloc);
     for _ in 0..count {
@@ -106,7 +100,7 @@ fn with_variables(alloc: Global, count: u32) -> ClauseList {
     list
 }
 
-// Whether the step of a number follows from the clauses before it.
+/// Whether the step of a number follows from the clauses before it.
 fn is_accepted(
     alloc: Global,
     log: &Derivations,
@@ -123,7 +117,7 @@ fn is_accepted(
     Ok(check_step(alloc, before, &step).is_ok())
 }
 
-// Whether each step of the log follows from the clauses before it.
+/// Whether each step of the log follows from the clauses before it.
 fn are_accepted(alloc: Global, log: &Derivations) -> Result<bool, Fail> {
     let known = log.known();
     let mut before = with_variables(alloc, known.vars());
@@ -136,7 +130,7 @@ fn are_accepted(alloc: Global, log: &Derivations) -> Result<bool, Fail> {
     Ok(true)
 }
 
-// The number of the step that refutes the assumptions, if its clause does.
+/// The number of the step that refutes the assumptions, if its clause does.
 fn refuting_step<P: Propagator + Drop>(
     solver: &Solver<P>,
     reply: &Reply,
@@ -153,11 +147,11 @@ fn refuting_step<P: Propagator + Drop>(
     }
 }
 
-// The first variable's value in what is found where the third is true.
+/// The first variable's value in what is found where the third is true.
 fn first_under_third<P: Propagator + Drop>(solver: &mut Solver<P>) -> Result<Option<bool>, Fail>
     requires eight { solver.old.log.vars ≡ 8 }
 {
-    match solver.ask(&[yes(3)], 10)? {
+    match solver.ask(&[Lit::positive(3)], 10)? {
         Reply::Found(values) => Ok(Some(values.value(1))),
         _ => Ok(None),
     }
@@ -168,7 +162,7 @@ pub fn refutes_assumptions<P: Propagator + Drop>(
     alloc: Global,
 ) -> Result<(), Fail> {
     let mut solver: Solver<P> = Solver::new(alloc, fourteen_clauses(alloc)?)?;
-    let assumptions = [no(1), yes(7), no(8)];
+    let assumptions = [Lit::negative(1), Lit::positive(7), Lit::negative(8)];
     let reply = solver.ask(&assumptions, 10)?;
     assert!(rt; refuting_step(&solver, &reply, &assumptions).is_some());
     assert!(rt; are_accepted(alloc, solver.derivations())?);
@@ -205,7 +199,7 @@ pub fn refutes_what_is_never_true<P: Propagator + Drop>(
     Ok(())
 }
 
-// Whether step 1 has no link and begins at clause 0.
+/// Whether step 1 has no link and begins at clause 0.
 fn is_first_copied(alloc: Global, log: &Derivations) -> Result<bool, Fail> {
     if 1 < log.main_len() || log.known().len() <= 1 {
         return Ok(false);
