@@ -12,7 +12,7 @@ ghost use Rattle.problem_reading.specs.Stops.{IsFormStop, IsLineStop};
 ghost use Rattle.problem_reading.specs.Views.{draft_of};
 
 use crate::declarations::Declarations;
-use crate::formula::line_formula;
+use crate::formula::{OtherFaults, line_formula};
 use crate::names::{any_declared, any_long, any_reserved, are_distinct, extended};
 use crate::said::Said;
 use crate::stop::{LineStop, TextKind};
@@ -40,15 +40,12 @@ pub fn judge_condition(declared: &Declarations, tokens: &[Token]) -> Result<Form
     ensures said { IfOk result (λ f. IsSaid (draft_of declared.now) (condition (map lexeme_of tokens.now)) (Said.Condition f)) }
     ensures stop { IfErr result (IsFormStop (draft_of declared.now) (condition (map lexeme_of tokens.now))) }
 {
-    let over = is_over(tokens, declared.other_nodes);
-    line_formula(
-        declared.alloc,
-        tokens,
-        &declared.atoms,
-        false,
-        declared.constraint.is_some(),
-        over,
-    )
+    let other = OtherFaults {
+        reserved: false,
+        twice: declared.constraint.is_some(),
+        over: is_over(tokens, declared.other_nodes),
+    };
+    line_formula(declared.alloc, tokens, &declared.atoms, other)
 }
 
 /// The query that a line's tokens spell, or the line's least fault.
@@ -58,7 +55,12 @@ pub fn judge_query(declared: &Declarations, tokens: &[Token]) -> Result<Formula,
 {
     let over = declared.asks.len() >= ASK_LIMIT
         || is_over(tokens, declared.constraint_nodes + declared.other_nodes);
-    line_formula(declared.alloc, tokens, &declared.atoms, false, false, over)
+    let other = OtherFaults {
+        reserved: false,
+        twice: false,
+        over,
+    };
+    line_formula(declared.alloc, tokens, &declared.atoms, other)
 }
 
 /// Whether an agent of this name is there.
@@ -109,17 +111,12 @@ pub fn judge_belief(
     ensures said { (n : ℕ) → times ≡ min n times_cap → IfOk result (λ agent. IsSaid (draft_of declared.now) (belief name.now n (map lexeme_of tokens.now)) (Said.Belief agent)) }
     ensures stop { (n : ℕ) → times ≡ min n times_cap → IfErr result (IsFormStop (draft_of declared.now) (belief name.now n (map lexeme_of tokens.now))) }
 {
-    let reserved = is_reserved(name.as_bytes());
-    let twice = is_agent(declared, name);
-    let over = believes_too_much(declared, name, times, tokens);
-    let base = line_formula(
-        declared.alloc,
-        tokens,
-        &declared.atoms,
-        reserved,
-        twice,
-        over,
-    )?;
+    let other = OtherFaults {
+        reserved: is_reserved(name.as_bytes()),
+        twice: is_agent(declared, name),
+        over: believes_too_much(declared, name, times, tokens),
+    };
+    let base = line_formula(declared.alloc, tokens, &declared.atoms, other)?;
     let name = copied(declared.alloc, name)?;
     Ok(Agent { name, times, base })
 }

@@ -1,4 +1,4 @@
--- The lines of a canonical text, one after another.
+-- The lines of a canonical text, one after another: each is canonical after those before it.
 use Rattle.std.proofs.Common.{◌≡◌, ℕ, suc, ◌+◌, ◌<◌, ◌≤◌, Bool, true, false, not, ◌||◌, List, [], ◌∷◌, ◌++◌, length, map, take, get_or, nat_lt, Some, None, refl, sym, ap, ◌∙◌, subst, arith, append_assoc, append-nil}
 use Rattle.std.specs.Prelude.{All, sum_by}
 use Rattle.std.specs.List.{list_all, list_any}
@@ -7,7 +7,7 @@ use Rattle.std.proofs.lemmas.Bool.Decides.{nat_tests}
 use Rattle.std.proofs.lemmas.List.{length-append, map-append}
 use Rattle.std.proofs.lemmas.List.Elements.{All-head, All-tail}
 use Rattle.std.proofs.lemmas.List.Sums.{sum_by-append, sum_by-cons}
-use Rattle.formulas.specs.Names.{is_name, is_reserved, are_distinct, are_names}
+use Rattle.formulas.specs.Names.{is_name, is_reserved, are_distinct, are_names, names_of}
 use Rattle.formulas.specs.Formulas.{nodes_of}
 use Rattle.formulas.specs.declared.formula.Formula.{Formula}
 use Rattle.formulas.proofs.NameViews.{list_any-map}
@@ -28,12 +28,13 @@ use Rattle.problem_lines.specs.Forms.{Form, declaration, condition, belief, quer
 use Rattle.problem_reading.specs.declared.said.Said.{Said}
 use Rattle.problem_reading.specs.declared.said.Said.TheVariants.{Names, Condition, Belief, Query}
 use Rattle.problem_reading.specs.Drafts.{Draft, empty_draft, other_size, total_times, size_of, is_long}
-use Rattle.problem_reading.specs.Saying.{IsSaid, Says, Adds}
-use Rattle.problem_reading.specs.Spelling.{Declares, no_lines, one_more, Spelled}
+use Rattle.problem_reading.specs.Saying.{IsSaid, Says}
+use Rattle.problem_reading.specs.Spelling.{Declares, Spelled}
 use Rattle.profile_text.specs.ProblemText.{agent_line, ask_line, atoms_line, constraint_line, problem_lines, problem_text}
 use Rattle.profile_text.proofs.NameLists.{name_of_item}
-use Rattle.canonical_lines.proofs.LineBytes.{Passes, lines_pass, no_comments, text_lines}
-use Rattle.canonical_lines.proofs.LineForms.{agent_form_of, ask_form_of, atoms_form_of, constraint_form_of}
+use Rattle.problem_laws.proofs.LineBytes.{Passes, lines_pass, no_comments, text_lines}
+use Rattle.problem_laws.proofs.Written.{AddsWritten, DeclaresWritten, none_written, more_written, written_declares}
+use Rattle.problem_laws.proofs.LineForms.{agent_form_of, ask_form_of, atoms_form_of, constraint_form_of}
 
 -- a byte that is not bad
 abbrev good : ℕ → Bool
@@ -87,7 +88,7 @@ none_there (name ∷ names) = none_there names
 
 module _ (p : Problem) where
   abbrev names : List (List ℕ)
-  names = p.atoms
+  names = names_of p.atoms
 
   known : are_names names ≡ true
   known = p.limits.atom_names
@@ -141,14 +142,15 @@ module _ (p : Problem) where
   abbrev first_lines : List (List ℕ)
   first_lines = atoms_line names ∷ constraint_line names p.constraint ∷ []
 
-  begun : Declares first_lines (of_agents [])
+  begun : DeclaresWritten first_lines (of_agents [])
   begun =
-      one_more (constraint_line names p.constraint) (of_agents [])
-      (one_more (atoms_line names) (record { atoms = names; constraint = None; agents = []; asks = [] }) no_lines
-      (Names names, says empty_draft (atoms_line names) (declaration names) (Names names) atoms_stands.0 atoms_stands.1 (atoms_form_of names known p.limits.some_atom) atoms_said, refl)) (
+      more_written (constraint_line names p.constraint) (of_agents [])
+      (more_written (atoms_line names) (record { atoms = names; constraint = None; agents = []; asks = [] }) none_written
+      (Names names, says empty_draft (atoms_line names) (declaration names) (Names names) atoms_stands.0 atoms_stands.1 (atoms_form_of names known p.limits.some_atom) atoms_said, refl, refl)) (
         Condition p.constraint,
         says (record { atoms = names; constraint = None; agents = []; asks = [] }) (constraint_line names p.constraint) (condition (text p.constraint)) (Condition p.constraint)
             constraint_stands.0 constraint_stands.1 (constraint_form_of (formula_text names p.constraint)) constraint_said,
+        refl,
         refl,
       )
 
@@ -194,26 +196,27 @@ module _ (p : Problem) where
         let small : nat_lt node_limit (nodes_of p.constraint + other_size done [] + size_of (text agent.base)) ≡ false = grind (arith, nat_tests, size, nodes_are, p.limits.few_nodes) in
         (read agent.base within, free, fresh, grind (arith, few, short, seldom, small), refl, refl)
 
-    agent_added : Adds (of_agents done) (agent_line names agent) (of_agents (done ++ agent ∷ []))
+    agent_added : AddsWritten (of_agents done) (agent_line names agent) (of_agents (done ++ agent ∷ []))
     agent_added =
         let once : agent.times ≤ times_limit = omega (arith, times_are, p.limits.few_times) in (
           Belief agent,
           says (of_agents done) (agent_line names agent) (belief agent.name agent.times (text agent.base)) (Belief agent) agent_stands.0 agent_stands.1
               (agent_form_of names agent named.0 counts once) agent_said,
           refl,
+          refl,
         )
 
-  agents_declared : (done rest : List Agent) → p.agents ≡ done ++ rest → Declares (first_lines ++ map (agent_line names) done) (of_agents done) →
-      Declares (first_lines ++ map (agent_line names) p.agents) (of_agents p.agents)
+  agents_declared : (done rest : List Agent) → p.agents ≡ done ++ rest → DeclaresWritten (first_lines ++ map (agent_line names) done) (of_agents done) →
+      DeclaresWritten (first_lines ++ map (agent_line names) p.agents) (of_agents p.agents)
   agents_declared done [] are h =
-      let P : List Agent → Type 0 = λ xs. Declares (first_lines ++ map (agent_line names) xs) (of_agents xs) in
+      let P : List Agent → Type 0 = λ xs. DeclaresWritten (first_lines ++ map (agent_line names) xs) (of_agents xs) in
       subst P (sym (are ∙ append-nil done)) h
   agents_declared done (agent ∷ rest) are h =
       let lines : (first_lines ++ map (agent_line names) done) ++ agent_line names agent ∷ [] ≡ first_lines ++ map (agent_line names) (done ++ agent ∷ []) =
       append_assoc first_lines (map (agent_line names) done) (agent_line names agent ∷ []) ∙ ap (λ ls. first_lines ++ ls) (sym (map-append (agent_line names) done (agent ∷ []))) in
-      let P : List (List ℕ) → Type 0 = λ ls. Declares ls (of_agents (done ++ agent ∷ [])) in
+      let P : List (List ℕ) → Type 0 = λ ls. DeclaresWritten ls (of_agents (done ++ agent ∷ [])) in
       agents_declared (done ++ agent ∷ []) rest (are ∙ sym (append_assoc done (agent ∷ []) rest))
-      (subst P lines (one_more (agent_line names agent) (of_agents (done ++ agent ∷ [])) h (agent_added done agent rest are)))
+      (subst P lines (more_written (agent_line names agent) (of_agents (done ++ agent ∷ [])) h (agent_added done agent rest are)))
 
   abbrev body : List (List ℕ)
   body = first_lines ++ map (agent_line names) p.agents
@@ -243,37 +246,38 @@ module _ (p : Problem) where
         let small : nat_lt node_limit (nodes_of p.constraint + other_size p.agents done + size_of (text ask)) ≡ false = grind (arith, nat_tests, size, asked_nodes, p.limits.few_nodes) in
         (read ask ask_within, grind (arith, few, small))
 
-    ask_added : Adds (of_asks done) (ask_line names ask) (of_asks (done ++ ask ∷ []))
+    ask_added : AddsWritten (of_asks done) (ask_line names ask) (of_asks (done ++ ask ∷ []))
     ask_added = (
       Query ask,
       says (of_asks done) (ask_line names ask) (query (text ask)) (Query ask) ask_stands.0 ask_stands.1 (ask_form_of (formula_text names ask)) ask_said,
       refl,
+      refl,
     )
 
-  asks_declared : (done rest : List Formula) → p.asks ≡ done ++ rest → Declares (body ++ map (ask_line names) done) (of_asks done) →
-      Declares (body ++ map (ask_line names) p.asks) (of_asks p.asks)
+  asks_declared : (done rest : List Formula) → p.asks ≡ done ++ rest → DeclaresWritten (body ++ map (ask_line names) done) (of_asks done) →
+      DeclaresWritten (body ++ map (ask_line names) p.asks) (of_asks p.asks)
   asks_declared done [] are h =
-      let P : List Formula → Type 0 = λ xs. Declares (body ++ map (ask_line names) xs) (of_asks xs) in
+      let P : List Formula → Type 0 = λ xs. DeclaresWritten (body ++ map (ask_line names) xs) (of_asks xs) in
       subst P (sym (are ∙ append-nil done)) h
   asks_declared done (ask ∷ rest) are h =
       let lines : (body ++ map (ask_line names) done) ++ ask_line names ask ∷ [] ≡ body ++ map (ask_line names) (done ++ ask ∷ []) =
       append_assoc body (map (ask_line names) done) (ask_line names ask ∷ []) ∙ ap (λ ls. body ++ ls) (sym (map-append (ask_line names) done (ask ∷ []))) in
-      let P : List (List ℕ) → Type 0 = λ ls. Declares ls (of_asks (done ++ ask ∷ [])) in
+      let P : List (List ℕ) → Type 0 = λ ls. DeclaresWritten ls (of_asks (done ++ ask ∷ [])) in
       asks_declared (done ++ ask ∷ []) rest (are ∙ sym (append_assoc done (ask ∷ []) rest))
-      (subst P lines (one_more (ask_line names ask) (of_asks (done ++ ask ∷ [])) h (ask_added done ask rest are)))
+      (subst P lines (more_written (ask_line names ask) (of_asks (done ++ ask ∷ [])) h (ask_added done ask rest are)))
 
-  all_declared : Declares (lines_of (problem_text p)) (of_asks p.asks)
-  all_declared =
-      let agents : Declares body (of_agents p.agents) = agents_declared [] p.agents refl begun in
-      let P : List (List ℕ) → Type 0 = λ ls. Declares ls (of_asks []) in
+  pub canonical_written : DeclaresWritten (problem_lines p) (of_asks p.asks)
+  canonical_written =
+      let agents : DeclaresWritten body (of_agents p.agents) = agents_declared [] p.agents refl begun in
+      let P : List (List ℕ) → Type 0 = λ ls. DeclaresWritten ls (of_asks []) in
       let whole = asks_declared [] p.asks refl (subst P (sym (append-nil body)) agents) in
-      let Q : List (List ℕ) → Type 0 = λ ls. Declares ls (of_asks p.asks) in
-      subst Q (append_assoc first_lines (map (agent_line names) p.agents) (map (ask_line names) p.asks) ∙ sym (text_lines p)) whole
+      let Q : List (List ℕ) → Type 0 = λ ls. DeclaresWritten ls (of_asks p.asks) in
+      subst Q (append_assoc first_lines (map (agent_line names) p.agents) (map (ask_line names) p.asks)) whole
 
   pub canonical_spelled : Spelled (problem_text p) p
   canonical_spelled = (
     of_asks p.asks,
-    all_declared,
+    subst (λ (ls : List (List ℕ)). Declares ls (of_asks p.asks)) (sym (text_lines p)) (written_declares canonical_written),
     record {
       some_atom = λ e. let none : length p.atoms ≡ 0 = ap length e in let some = p.limits.some_atom in omega (arith, none, some);
       some_agent = λ e. let none : length p.agents ≡ 0 = ap length e in let some = p.limits.some_agent in omega (arith, none, some);

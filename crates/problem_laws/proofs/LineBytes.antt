@@ -16,7 +16,7 @@ use Rattle.merge_model.specs.declared.problem.Problem.{Problem}
 use Rattle.problem_lines.specs.Lines.{content_of, lines_of, with_byte}
 use Rattle.profile_text.specs.ProblemText.{agent_line, ask_line, atoms_line, constraint_line, lines_text, problem_lines, problem_text, spaced_names, times_text}
 use Rattle.profile_text.proofs.NameLists.{name_of_item, same_default}
-use Rattle.canonical_lines.proofs.LineForms.{plain, reads_well, all_times, well_at}
+use Rattle.problem_laws.proofs.LineForms.{plain, reads_well, all_times, well_at}
 
 -- a byte is not the mark
 abbrev pub other : ℕ → ℕ → Bool

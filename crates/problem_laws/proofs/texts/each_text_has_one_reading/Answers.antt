@@ -1,6 +1,6 @@
 use Rattle.problem_laws.proofs.EachText.{has_reading}
 use Rattle.problem_laws.proofs.TextLaws.{one_problem, one_first_fault, spelled_or_faulty}
-use Rattle.problem_laws.proofs.each_text_has_one_reading.Goals as goal
+use Rattle.problem_laws.proofs.texts.each_text_has_one_reading.Goals as goal
 
 pub returns-clause-has_reading : goal.returns-clause-has_reading
 returns-clause-has_reading c = has_reading c.args._bytes.now

@@ -1,8 +1,8 @@
 use Rattle.std.proofs.Common.{get_or, arith}
 use Rattle.std.proofs.lemmas.List.Sums.{get_or-le-sum_by}
 use Rattle.profile_text.proofs.NameLists.{name_of_item, same_default}
-use Rattle.canonical_lines.proofs.LineForms.{agent_form_of, atoms_form_of}
-use Rattle.canonical_lines.proofs.canonical_lines_have_their_forms.Goals as goal
+use Rattle.problem_laws.proofs.LineForms.{agent_form_of, atoms_form_of}
+use Rattle.problem_laws.proofs.canonical.canonical_lines_have_their_forms.Goals as goal
 
 pub returns-clause-atoms : goal.returns-clause-atoms
 returns-clause-atoms c = let problem = c.args._problem.now in atoms_form_of problem.atoms problem.limits.atom_names problem.limits.some_atom

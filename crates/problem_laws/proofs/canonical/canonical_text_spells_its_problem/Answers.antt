@@ -1,7 +1,7 @@
 use Rattle.profile_text.specs.ProblemText.{problem_text}
 use Rattle.problem_laws.proofs.TextLaws.{one_problem, spelled_or_faulty}
-use Rattle.problem_round_trip.proofs.Spelling.{canonical_spelled}
-use Rattle.problem_round_trip.proofs.canonical_text_spells_its_problem.Goals as goal
+use Rattle.problem_laws.proofs.CanonicalText.{canonical_spelled}
+use Rattle.problem_laws.proofs.canonical.canonical_text_spells_its_problem.Goals as goal
 
 pub returns-clause-spelled : goal.returns-clause-spelled
 returns-clause-spelled c = canonical_spelled c.args._problem.now

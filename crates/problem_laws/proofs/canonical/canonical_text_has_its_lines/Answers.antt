@@ -1,5 +1,5 @@
-use Rattle.canonical_lines.proofs.LineBytes.{no_comments, text_lines}
-use Rattle.canonical_lines.proofs.canonical_text_has_its_lines.Goals as goal
+use Rattle.problem_laws.proofs.LineBytes.{no_comments, text_lines}
+use Rattle.problem_laws.proofs.canonical.canonical_text_has_its_lines.Goals as goal
 
 pub returns-clause-lines : goal.returns-clause-lines
 returns-clause-lines c = text_lines c.args._problem.now
