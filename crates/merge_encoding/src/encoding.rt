@@ -3,10 +3,9 @@
 ghost use Rattle.std.specs.Prelude.{◌≡◌, ℕ, ◌+◌, ◌*◌, ◌<◌, ◌≤◌, ◌^◌, [], ◌∷◌, ◌++◌, length, map, sum_by, All, IfOk, OnOk};
 ghost use Rattle.clause_store.specs.Limits.{var_limit};
 ghost use Rattle.clause_store.specs.Lits.{positive_lit, sorted_clause, InRange};
-ghost use Rattle.formulas.specs.Limits.{node_limit};
+ghost use Rattle.formulas.specs.Limits.{node_limit, valuation_limit};
 ghost use Rattle.formulas.specs.Formulas.{nodes_of, width_of};
 ghost use Rattle.merge_model.specs.Answers.{profile_of};
-ghost use Rattle.agent_copies.specs.Limits.{shared_limit};
 ghost use Rattle.merge_encoding.specs.Limits.{copy_room};
 ghost use Rattle.merge_encoding.specs.MainDues.{definitions, copies_due, due_for, IsMain};
 ghost use Rattle.merge_encoding.specs.Frames.{copy_of, frame_of, IsFrameOver, FrameIsDistinct};
@@ -53,7 +52,7 @@ fn copy_all<D: Counted>(
     distance: &D,
 ) -> Result<Vec<AgentCopy>, NoMemory>
     requires some { 1 ≤ length shared.now }
-    requires few { length shared.now ≤ shared_limit }
+    requires few { length shared.now ≤ valuation_limit }
     requires shared_in { InRange clauses.old.vars shared.now }
     requires few_nodes { All (λ agent. nodes_of agent.base ≤ node_limit) agents.now }
     requires known { All (λ agent. width_of agent.base ≤ length shared.now) agents.now }
