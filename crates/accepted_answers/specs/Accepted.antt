@@ -16,7 +16,7 @@ use Rattle.merge_model.specs.Answers.{profile_of}
 use Rattle.merge_model.specs.Merging.{Profile, IsModel, repeated}
 use Rattle.derivation_log.specs.declared.step.Step.{Step}
 use Rattle.derivation_log.specs.Logs.{Log, known_of, IsSound}
-use Rattle.log_checker.specs.Refutes.{Refutes}
+use Rattle.clause_store.specs.Refutes.{Refutes}
 use Rattle.merge_encoding.specs.MainDues.{DueCounter, DueLevels, MainDue, main_due}
 use Rattle.merge_encoding.specs.Assumptions.{assumed}
 use Rattle.accepted_answers.specs.Claims.{claims_due}
