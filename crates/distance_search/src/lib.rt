@@ -16,6 +16,7 @@ mod subject;
 
 pub use answer::{Away, Best, Consistency, Entails, Named};
 pub use asking::Questions;
+pub use closest::closest_with;
 pub use engine::Engine;
 pub use reply::SearchStop;
 pub use search::Search;

@@ -221,6 +221,22 @@ impl<D: Counted + Drop, A: Levelled + Drop> Search<D, A> {
         outcome
     }
 
+    /// What the search is about, the solver with its log, and whether memory was wanting.
+    pub fn into_questions(self) -> (Subject<D, A>, Engine, bool)
+        ensures subject { result.0 ≡ self.subject }
+        ensures engine { result.1 ≡ self.engine }
+        ensures main { IsOver (⟦<Subject<D, A> as Questions>⟧.setting result.0) result.1.log }
+        ensures failed { result.2 ≡ self.failed }
+    {
+        let Search {
+            subject,
+            engine,
+            failed,
+            alloc: _,
+        } = self;
+        (subject, engine, failed)
+    }
+
     /// The problem, and the log as it stands.
     pub fn into_parts(self) -> (Problem, Derivations)
         ensures problem { result.0 ≡ self.subject.problem }
