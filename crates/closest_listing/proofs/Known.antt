@@ -35,9 +35,10 @@ all_near : (dist : List Bool → List Bool → ℕ) (n : ℕ) (v : List Bool) (b
 all_near dist n v [] [] h = tt
 all_near dist n v [] (u ∷ us) h = ∥∥₁_elim h (λ x y. absurd x) (λ a. a)
 all_near dist n v (f ∷ fs) [] h = ∥∥₁_elim h (λ x y. absurd x) (λ a. a)
-all_near dist n v (f ∷ fs) (u ∷ us) h =
-    ((is_model n f u (∥∥₁_elim h (hlevel) (λ a. ∣ a.0.0 ∣₁)), ∥∥₁_elim h (hlevel ℕ_set) (λ a. a.0.1)),
-    all_near dist n v fs us (∥∥₁_elim h (hlevel) (λ a. ∣ a.1 ∣₁)))
+all_near dist n v (f ∷ fs) (u ∷ us) h = (
+  (is_model n f u (∥∥₁_elim h (hlevel) (λ a. ∣ a.0.0 ∣₁)), ∥∥₁_elim h (hlevel ℕ_set) (λ a. a.0.1)),
+  all_near dist n v fs us (∥∥₁_elim h (hlevel) (λ a. ∣ a.1 ∣₁)),
+)
 
 is_closest : (dist : List Bool → List Bool → ℕ) (rank : List ℕ → List ℕ) (s : Setting) (v : List Bool) → ∥ IsClosest dist rank s.profile v ∥₁ → IsClosest dist rank s.profile v
 is_closest dist rank s v h = record {

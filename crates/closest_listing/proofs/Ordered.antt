@@ -128,14 +128,15 @@ false_kept s depth atom found v lt off h = record {
   closest = h.closest;
   same = h.same;
   first = λ u k e. rw (add-one atom) (
-    let lv : atom < length v = omega (arith, h.closest.model.size) in
-    let lu : atom < length u = omega (arith, k.model.size) in
-    elim (h.first u k e) [
-      inl same ↦ (elim (a_bit (get_or u atom false)) [
-          inl on ↦ inr (before_bit atom v u lv lu same off on)
-        | inr low ↦ inl (same_bit atom u v lu lv same (low ∙ sym off)) ])
-    | inr b ↦ inr (before_more atom v u b)
-    ]);
+      let lv : atom < length v = omega (arith, h.closest.model.size) in
+      let lu : atom < length u = omega (arith, k.model.size) in
+      elim (h.first u k e) [
+        | inl same ↦ (elim (a_bit (get_or u atom false)) [
+          | inl on ↦ inr (before_bit atom v u lv lu same off on)
+          | inr low ↦ inl (same_bit atom u v lu lv same (low ∙ sym off))
+        ])
+        | inr b ↦ inr (before_more atom v u b)
+      ]);
 }
 
 pub true_kept : (s : Setting) (depth atom : ℕ) (found v : List Bool) → atom < s.profile.atoms → get_or v atom false ≡ true → IsLowestTo s depth atom found v → IsWith s (take atom v ++ false ∷ []) None → IsLowestTo s depth (atom + 1) found v
@@ -143,14 +144,15 @@ true_kept s depth atom found v lt on h none = record {
   closest = h.closest;
   same = h.same;
   first = λ u k e. rw (add-one atom) (
-    let lv : atom < length v = omega (arith, h.closest.model.size) in
-    let lu : atom < length u = omega (arith, k.model.size) in
-    elim (h.first u k e) [
-      inl same ↦ (elim (a_bit (get_or u atom false)) [
-          inl up ↦ inl (same_bit atom u v lu lv same (up ∙ sym on))
-        | inr low ↦ absurd (none u k (begins_holds atom v u false lv lu same low)) ])
-    | inr b ↦ inr (before_more atom v u b)
-    ]);
+      let lv : atom < length v = omega (arith, h.closest.model.size) in
+      let lu : atom < length u = omega (arith, k.model.size) in
+      elim (h.first u k e) [
+        | inl same ↦ (elim (a_bit (get_or u atom false)) [
+          | inl up ↦ inl (same_bit atom u v lu lv same (up ∙ sym on))
+          | inr low ↦ absurd (none u k (begins_holds atom v u false lv lu same low))
+        ])
+        | inr b ↦ inr (before_more atom v u b)
+      ]);
 }
 
 pub lower_found : (s : Setting) (depth atom : ℕ) (found v lower : List Bool) → atom < s.profile.atoms → depth ≤ atom → IsLowestTo s depth atom found v → IsWith s (take atom v ++ false ∷ []) (Some lower) → IsLowestTo s depth (atom + 1) found lower
@@ -167,9 +169,9 @@ lowest_end s depth found v h = record {
   closest = h.closest;
   same = h.same;
   first = λ u k e.
-    let ev = take_all s.profile.atoms v (omega (arith, h.closest.model.size)) in
-    let eu = take_all s.profile.atoms u (omega (arith, k.model.size)) in
-    elim (h.first u k e) [ inl same ↦ inl (sym eu ∙ same ∙ ev) | inr b ↦ inr (before_whole s.profile.atoms v u b) ];
+      let ev = take_all s.profile.atoms v (omega (arith, h.closest.model.size)) in
+      let eu = take_all s.profile.atoms u (omega (arith, k.model.size)) in
+      elim (h.first u k e) [ inl same ↦ inl (sym eu ∙ same ∙ ev) | inr b ↦ inr (before_whole s.profile.atoms v u b) ];
 }
 
 -- ---- the loop that goes back from the last one
@@ -185,8 +187,8 @@ none_at_true s k last e lt on h = λ u c same b.
     let ll : k < length last = omega arith in
     let lu : k < length u = omega (arith, c.model.size) in
     elim (a_bit (get_or u k false)) [
-      inl up ↦ h u c (rw (add-one k) (same_bit k u last lu ll same (up ∙ sym on))) b
-    | inr low ↦ not_before_bit k last u ll lu same on low b
+      | inl up ↦ h u c (rw (add-one k) (same_bit k u last lu ll same (up ∙ sym on))) b
+      | inr low ↦ not_before_bit k last u ll lu same on low b
     ]
 
 pub none_at_false : (s : Setting) (k : ℕ) (last : List Bool) → length last ≡ s.profile.atoms → k < s.profile.atoms → get_or last k false ≡ false → IsWith s (take k last ++ true ∷ []) None → NoneAbove s (k + 1) last → NoneAbove s k last
@@ -194,8 +196,8 @@ none_at_false s k last e lt off none h = λ u c same b.
     let ll : k < length last = omega arith in
     let lu : k < length u = omega (arith, c.model.size) in
     elim (a_bit (get_or u k false)) [
-      inl up ↦ none u c (begins_holds k last u true ll lu same up)
-    | inr low ↦ h u c (rw (add-one k) (same_bit k u last lu ll same (low ∙ sym off))) b
+      | inl up ↦ none u c (begins_holds k last u true ll lu same up)
+      | inr low ↦ h u c (rw (add-one k) (same_bit k u last lu ll same (low ∙ sym off))) b
     ]
 
 pub none_above : (s : Setting) (last : List Bool) → NoneAbove s 0 last → IsNextListed s (Some last) None
@@ -208,17 +210,19 @@ found_above s k last found v e lt off there h f =
     let same_v : take (suc k) v ≡ take (suc k) found = rw (← add-one k) f.same in
     let kv : take k v ≡ take k last = take_less k (suc k) v found (omega arith) same_v ∙ fs.0 in
     let lv : k < length v = omega (arith, f.closest.model.size) in
-    let bit : get_or v k false ≡ true = bit_of k v found lv fs.2 same_v ∙ fs.1 in
-    ( f.closest
-    , before_whole (suc k) last v (before_bit k last v ll lv kv off bit)
-    , λ u c b.
-        let lu : k < length u = omega (arith, c.model.size) in
-        elim (where_before k last u b) [
-          inl p ↦ inr (before_whole k v u (subst (λ (t : List Bool). IsBefore t (take k u)) (sym kv) p))
-        | inr same ↦ (elim (a_bit (get_or u k false)) [
-              inl up ↦ f.first u c (rw (add-one k) (same_bit k u found lu fs.2 (same ∙ sym fs.0) (up ∙ sym fs.1)))
-            | inr low ↦ absurd (h u c (rw (add-one k) (same_bit k u last lu ll same (low ∙ sym off))) b) ])
-        ] )
+    let bit : get_or v k false ≡ true = bit_of k v found lv fs.2 same_v ∙ fs.1 in (
+      f.closest,
+      before_whole (suc k) last v (before_bit k last v ll lv kv off bit),
+      λ u c b.
+          let lu : k < length u = omega (arith, c.model.size) in
+          elim (where_before k last u b) [
+            | inl p ↦ inr (before_whole k v u (subst (λ (t : List Bool). IsBefore t (take k u)) (sym kv) p))
+            | inr same ↦ (elim (a_bit (get_or u k false)) [
+              | inl up ↦ f.first u c (rw (add-one k) (same_bit k u found lu fs.2 (same ∙ sym fs.0) (up ∙ sym fs.1)))
+              | inr low ↦ absurd (h u c (rw (add-one k) (same_bit k u last lu ll same (low ∙ sym off))) b)
+            ])
+          ],
+    )
   where
     bit_of : (k : ℕ) (v u : List Bool) → k < length v → k < length u → take (suc k) v ≡ take (suc k) u → get_or v k false ≡ get_or u k false
     bit_of k [] u h i e = absurd (omega arith)

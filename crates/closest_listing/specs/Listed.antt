@@ -11,7 +11,8 @@ IsClosestIn s v = IsClosest s.dist s.rank s.profile v
 -- the least closest valuation above the one that is given, or none where no closest valuation is above it
 abbrev pub IsNextListed : Setting → Option (List Bool) → Option (List Bool) → Type 0
 IsNextListed s after None = (u : List Bool) → IsClosestIn s u → IsAbove after u → ⊥
-IsNextListed s after (Some v) = IsClosestIn s v × IsAbove after v × ((u : List Bool) → IsClosestIn s u → IsAbove after u → (u ≡ v) ⊎ IsBefore v u)
+IsNextListed s after (Some v) =
+    IsClosestIn s v × IsAbove after v × ((u : List Bool) → IsClosestIn s u → IsAbove after u → (u ≡ v) ⊎ IsBefore v u)
 
 -- a closest valuation that begins as another does, for so many values, and whose values up to a place are before
 -- those of every other such valuation, or the same

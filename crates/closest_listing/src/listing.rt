@@ -26,13 +26,20 @@ pub struct Listing<D: Counted + Drop, A: Levelled + Drop> {
     after: Option<Valuation>,
     failed: bool,
     alloc: Global,
-    ghost over: { IsOver (setting_of (D.dist subject.distance) (D.most subject.distance) (D.due subject.distance) (A.rank subject.aggregator) (A.levels_of subject.aggregator) (A.levels_due subject.aggregator) subject.problem) engine.log },
-    ghost known: { ∥ IsBestFor (setting_of (D.dist subject.distance) (D.most subject.distance) (D.due subject.distance) (A.rank subject.aggregator) (A.levels_of subject.aggregator) (A.levels_due subject.aggregator) subject.problem) best ∥₁ },
+    ghost over: { IsOver (setting_of
+        (D.dist subject.distance) (D.most subject.distance) (D.due subject.distance)
+        (A.rank subject.aggregator) (A.levels_of subject.aggregator) (A.levels_due subject.aggregator)
+        subject.problem) engine.log },
+    ghost known: { ∥ IsBestFor (setting_of
+        (D.dist subject.distance) (D.most subject.distance) (D.due subject.distance)
+        (A.rank subject.aggregator) (A.levels_of subject.aggregator) (A.levels_due subject.aggregator)
+        subject.problem) best ∥₁ },
     ghost sized: { ForSome after (λ v. length v ≡ length subject.problem.atoms) },
 }
 
 impl<D: Counted + Drop, A: Levelled + Drop> Listing<D, A> {
-    /// A listing of the closest valuations above one, or of all; `best` is a best answer of the search.
+    /// A listing of the closest valuations above one, or of all; `best` is a best answer of the
+    /// search.
     pub fn new(
         alloc: Global,
         search: Search<D, A>,
@@ -58,9 +65,10 @@ impl<D: Counted + Drop, A: Levelled + Drop> Listing<D, A> {
         }
     }
 
-    /// The least closest valuation above the one that was given last, or above the place of the beginning, or of all;
-    /// `None` exactly where there is none. `GaveUp` where the last question spent its budget, `NoMemory` for want of
-    /// memory, and from then on always.
+    /// The least closest valuation above the one that was given last, or above the place of the
+    /// beginning, or of all; `None` exactly where there is none. `GaveUp` where the last question
+    /// spent its budget, with the number of its first step; `NoMemory` for want of memory, and from
+    /// then on always. A stop leaves the place as it was.
     pub fn next(&mut self) -> Result<Option<Valuation>, SearchStop>
         ensures subject { self.new.subject ≡ self.old.subject }
         ensures best { self.new.best ≡ self.old.best }
@@ -77,7 +85,12 @@ impl<D: Counted + Drop, A: Levelled + Drop> Listing<D, A> {
         }
         let atoms = self.subject.problem.atoms.len();
         let outcome = next_closest(
-            self.alloc, &self.subject, &mut self.engine, &self.best, self.after, atoms,
+            self.alloc,
+            &self.subject,
+            &mut self.engine,
+            &self.best,
+            self.after,
+            atoms,
         );
         self.failed = is_wanting(&outcome);
         self.after = place_of(self.after, &outcome);

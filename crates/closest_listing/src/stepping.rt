@@ -13,12 +13,7 @@ use formulas::Valuation;
 use std::alloc::Global;
 
 /// The first values of a valuation, and then a given one.
-fn prefix_of(
-    alloc: Global,
-    from: Valuation,
-    atom: u32,
-    value: bool,
-) -> Result<Vec<bool>, NoMemory>
+fn prefix_of(alloc: Global, from: Valuation, atom: u32, value: bool) -> Result<Vec<bool>, NoMemory>
     requires { atom < length from }
     ensures { IfOk result (λ prefix. prefix.items ≡ take atom from ++ value ∷ []) }
 {
@@ -30,7 +25,8 @@ fn prefix_of(
     Ok(prefix)
 }
 
-/// A closest valuation with the same first values and then a given one, if there is one. One question.
+/// A closest valuation with the same first values and then a given one, if there is one. One
+/// question.
 fn closest_after<Q: Questions>(
     alloc: Global,
     questions: &Q,

@@ -1,5 +1,5 @@
 use Rattle.std.proofs.Common.{rules, ◌≡◌, arith, subst}
-use Rattle.distance_search.proofs.Logs.{longer_on}
+use Rattle.cdcl_core.proofs.Longer.{longer_on}
 use Rattle.distance_search.proofs.Halts.{halted_on}
 use Rattle.closest_listing.specs.Listed.{IsLowestTo}
 use Rattle.closest_listing.proofs.Ordered.{lowest_end}

@@ -1,5 +1,5 @@
 use Rattle.std.proofs.Common.{rules, ◌≡◌, arith, subst, ◌∙◌}
-use Rattle.distance_search.proofs.Logs.{longer_none, longer_on}
+use Rattle.cdcl_core.proofs.Longer.{longer_none, longer_on}
 use Rattle.distance_search.proofs.Halts.{halted_on}
 use Rattle.closest_listing.specs.Listed.{NoneAbove}
 use Rattle.closest_listing.proofs.Ordered.{with_is, none_at_start, none_by_true, none_by_false, found_by, none_above}
