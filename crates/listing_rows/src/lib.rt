@@ -1,5 +1,0 @@
-// Worked listings. There is nothing here but tests.
-#![tactic(auto)]
-
-#[cfg(test)]
-mod tests;
