@@ -23,7 +23,7 @@ use Rattle.formula_grammar.proofs.ReadBack.{read_back}
 use Rattle.merge_model.specs.declared.agent.Agent.{Agent}
 use Rattle.merge_model.specs.declared.problem.Problem.{Problem}
 use Rattle.merge_model.specs.Limits.{IsWithin}
-use Rattle.problem_lines.specs.Lines.{content_of, lines_of}
+use Rattle.problem_lines.specs.Lines.{content_of}
 use Rattle.problem_lines.specs.Forms.{Form, declaration, condition, belief, query, form_of}
 use Rattle.problem_reading.specs.declared.said.Said.{Said}
 use Rattle.problem_reading.specs.declared.said.Said.TheVariants.{Names, Condition, Belief, Query}

@@ -1,5 +1,5 @@
 -- Lines without a fault spell exactly one problem or end with exactly one fault, and never both.
-use Rattle.std.proofs.Common.{◌≡◌, ◌≢◌, ◌≤◌, ℕ, List, [], ◌∷◌, length, unwrap_or, refl, ap, sym, subst, ◌∙◌, inl, inr, arith}
+use Rattle.std.proofs.Common.{◌≡◌, ◌≢◌, ◌≤◌, List, [], ◌∷◌, length, unwrap_or, refl, ap, sym, subst, ◌∙◌, inl, inr, arith}
 use Rattle.formulas.specs.Names.{AtomList}
 use Rattle.formulas.specs.declared.formula.Formula as formula
 use Rattle.merge_model.specs.declared.agent.Agent.{Agent}

@@ -26,7 +26,8 @@ pub fn canonical_lines_have_their_forms(_problem: &Problem)
         ≡ condition (lexemes_of (formula_text names _problem.now.constraint)) }
     ensures agents { let names = names_of _problem.now.atoms in
         All (λ agent. form_of (lexemes_of (agent_line names agent))
-        ≡ belief agent.name agent.times (lexemes_of (formula_text names agent.base))) _problem.now.agents }
+        ≡ belief agent.name agent.times (lexemes_of (formula_text names agent.base)))
+        _problem.now.agents }
     ensures asks { let names = names_of _problem.now.atoms in
         All (λ ask. form_of (lexemes_of (ask_line names ask))
         ≡ query (lexemes_of (formula_text names ask))) _problem.now.asks }
