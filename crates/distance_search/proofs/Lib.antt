@@ -1,0 +1,12 @@
+pub mod Logs
+pub mod Told
+pub mod Answering
+pub mod Orders
+pub mod Least
+pub mod Measured
+pub mod Halts
+pub mod Places
+pub mod Ready
+pub mod Lowering
+pub mod Exact
+pub mod Verdicts
