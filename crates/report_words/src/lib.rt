@@ -8,5 +8,5 @@ mod writing;
 pub use numbers::{WideLit, literal_of, number_of};
 pub use words::{Words, first_of};
 pub use writing::{
-    write_bytes, write_literal, write_number, write_numbers, write_pair, write_word,
+    write_bytes, write_line, write_literal, write_number, write_numbers, write_word, write_words,
 };

@@ -53,11 +53,21 @@ pub fn write_literal(literal: WideLit, into: &mut Vec<u8>) -> Result<(), NoMemor
     write_bytes(Buffer::new().format(literal.var).as_bytes(), into)
 }
 
-/// Appends the line of two words with its line feed.
-pub fn write_pair(first: &[u8], second: &[u8], into: &mut Vec<u8>) -> Result<(), NoMemory>
-    ensures { Writes result into.old.items into.new.items (line_of (first.now ∷ second.now ∷ []) ++ codes "\n") }
+/// Appends words, each behind a blank.
+pub fn write_words(words: &[&[u8]], into: &mut Vec<u8>) -> Result<(), NoMemory>
+    ensures { Writes result into.old.items into.new.items (later_text (map (λ word. word.now) words.now)) }
+{
+    for word in words {
+        write_word(word, into)?;
+    }
+    Ok(())
+}
+
+/// Appends the line of a word and the words after it, with its line feed.
+pub fn write_line(first: &[u8], rest: &[&[u8]], into: &mut Vec<u8>) -> Result<(), NoMemory>
+    ensures { Writes result into.old.items into.new.items (line_of (first.now ∷ map (λ word. word.now) rest.now) ++ codes "\n") }
 {
     write_bytes(first, into)?;
-    write_word(second, into)?;
+    write_words(rest, into)?;
     write_bytes(b"\n", into)
 }

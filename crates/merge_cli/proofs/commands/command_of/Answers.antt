@@ -1,7 +1,7 @@
 use Rattle.std.proofs.Common.{rules, arith, ◌≡◌, ap, ◌∙◌}
 use Rattle.std.specs.Prelude.{codes, Some}
 use Rattle.merge_cli.proofs.WordLists.{three_words}
-use Rattle.merge_cli.proofs.forms.form_of.Goals as goal
+use Rattle.merge_cli.proofs.commands.command_of.Goals as goal
 
 pub returns-in_ok-aggregator_of-in-merge-clause-some : goal.returns-in_ok-aggregator_of-in-merge-clause-some
 returns-in_ok-aggregator_of-in-merge-clause-some c =
