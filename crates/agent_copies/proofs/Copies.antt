@@ -1,32 +1,26 @@
 -- What is due for a copy is a copy.
-use Rattle.std.proofs.Common.{◌≡◌, ℕ, zero, suc, ◌+◌, ◌<◌, ◌≤◌, Bool, List, ◌∷◌, ◌++◌, length, refl, sym, ap, ◌∙◌, subst, arith}
+use Rattle.std.proofs.Common.{◌≡◌, ℕ, zero, suc, ◌+◌, ◌<◌, ◌≤◌, Bool, List, ◌∷◌, ◌++◌, length, refl, sym, ap, subst, arith}
 use Rattle.std.specs.Prelude.{slice_index}
 use Rattle.clause_store.specs.declared.lit.Lit.{Lit}
 use Rattle.clause_store.specs.Lits.{InRange}
-use Rattle.clause_store.specs.Truth.{Satisfies}
 use Rattle.clause_store.specs.Extends.{Always}
-use Rattle.clause_store.proofs.Truths.{within_more, all_true-append, and_left, and_right}
+use Rattle.clause_store.proofs.Truths.{within_more, both_true}
 use Rattle.clause_store.proofs.Blocks.{next_are}
+use Rattle.clause_store.specs.Fresh.{fresh_vars, fresh_lits}
+use Rattle.clause_store.proofs.Fresh.{length-fresh_lits, fresh_lits_in}
 use Rattle.formulas.specs.declared.formula.Formula.{Formula}
 use Rattle.formulas.specs.Formulas.{width_of}
 use Rattle.clause_translation.specs.Definition.{definition}
 use Rattle.clause_translation.proofs.Parts.{root_is, some_node}
 use Rattle.clause_translation.proofs.Defines.{defines}
-use Rattle.totalizer.specs.Counter.{Due, fresh_vars, AreFresh}
+use Rattle.totalizer.specs.Counter.{Due, AreFresh}
 use Rattle.agent_copies.specs.Counter.{IsCounter}
-use Rattle.agent_copies.specs.Copy.{fresh_lits, copy_due, IsCopy}
+use Rattle.agent_copies.specs.Copy.{copy_due, IsCopy}
+use Rattle.agent_copies.specs.Limits.{shared_limit}
 
 -- what the law of a distance says
 abbrev pub Counts : (List Bool → List Bool → ℕ) → (ℕ → ℕ) → (ℕ → List Lit → List Lit → Due) → Type 0
-Counts dist most due = (v : ℕ) (shared own : List Lit) → length shared ≡ length own → 1 ≤ length shared → length shared ≤ 64 → InRange v shared → InRange v own → IsCounter v shared own dist (most (length shared)) (due v shared own)
-
-pub length-fresh_lits : (v n : ℕ) → length (fresh_lits v n) ≡ n
-length-fresh_lits v zero = refl
-length-fresh_lits v (suc n) = omega (arith, length-fresh_lits (v + 1) n)
-
-pub fresh_lits_in : (v n w : ℕ) → v + n ≤ w → InRange w (fresh_lits v n)
-fresh_lits_in v zero w h = tt
-fresh_lits_in v (suc n) w h = ((omega arith, omega arith), fresh_lits_in (v + 1) n w (omega arith))
+Counts dist most due = (v : ℕ) (shared own : List Lit) → length shared ≡ length own → 1 ≤ length shared → length shared ≤ shared_limit → InRange v shared → InRange v own → IsCounter v shared own dist (most (length shared)) (due v shared own)
 
 cons_above : (u v w x : ℕ) (ys : List ℕ) → u < x → x ≤ v → AreFresh v w ys → (k : ℕ) → k < length (x ∷ ys) → u < slice_index (x ∷ ys) k
 cons_above u v w x ys lo hi f zero lt = lo
@@ -58,7 +52,7 @@ fresh_row v (suc n) w ys le f =
     (fresh_row (v + 1) n w ys (omega arith) (subst (λ m. AreFresh m w ys) e f))
 
 -- what is due for a copy is a copy
-pub copy_is : (dist : List Bool → List Bool → ℕ) (most : ℕ → ℕ) (due : ℕ → List Lit → List Lit → Due) → Counts dist most due → (v : ℕ) (shared : List Lit) (base : Formula) → 1 ≤ length shared → length shared ≤ 64 → InRange v shared → width_of base ≤ length shared → IsCopy v shared base dist (most (length shared)) (copy_due due v shared base)
+pub copy_is : (dist : List Bool → List Bool → ℕ) (most : ℕ → ℕ) (due : ℕ → List Lit → List Lit → Due) → Counts dist most due → (v : ℕ) (shared : List Lit) (base : Formula) → 1 ≤ length shared → length shared ≤ shared_limit → InRange v shared → width_of base ≤ length shared → IsCopy v shared base dist (most (length shared)) (copy_due due v shared base)
 copy_is dist most due law v shared base lo hi in_range wide =
     let n = length shared in
     let own = fresh_lits v n in
@@ -69,16 +63,15 @@ copy_is dist most due law v shared base lo hi in_range wide =
     let c = due d.root shared own in
     let defined = defines base (v + n) own (fresh_lits_in v n (v + n) (omega arith)) (omega (arith, ln)) in
     let counted = law d.root shared own (sym ln) lo hi (within_more v d.root shared (omega (arith, rn)) in_range) (fresh_lits_in v n d.root (omega (arith, rn))) in
-    let split : (b : ℕ → Bool) → Satisfies b (d.clauses ++ c.clauses) → Satisfies b d.clauses × Satisfies b c.clauses = λ b r. let s = sym (all_true-append b d.clauses c.clauses) ∙ r in (and_left _ _ s, and_right _ _ s) in
     let grows = counted.extends.grows in
     let few = counted.few in
     record {
       own = refl;
       extends = next_are Always Always (v + n) d.root c.vars d.clauses c.clauses defined.extends counted.extends (λ b p r. tt);
       few = omega (arith, rn, few);
-      root = λ b r. defined.value b (split b r).0;
-      in_order = λ b r. counted.in_order b (split b r).1;
-      value = λ b r. counted.value b (split b r).1;
+      root = λ b r. defined.value b (both_true b d.clauses c.clauses r).0;
+      in_order = λ b r. counted.in_order b (both_true b d.clauses c.clauses r).1;
+      value = λ b r. counted.value b (both_true b d.clauses c.clauses r).1;
       size = counted.size;
       fresh = fresh_row v n c.vars (d.root ∷ c.outputs) (omega (arith, rn, grows)) (fresh_cons (v + n) d.root c.vars d.root c.outputs (omega (arith, rn, sn)) (omega arith) grows counted.fresh);
     }

@@ -1,14 +1,15 @@
 -- What is due for the copy of an agent.
-use Rattle.std.specs.Prelude.{◌≡◌, ℕ, ◌+◌, ◌≤◌, ◌^◌, Bool, List, ◌∷◌, ◌++◌, length, map}
+use Rattle.std.specs.Prelude.{◌≡◌, ℕ, ◌+◌, ◌≤◌, Bool, List, ◌∷◌, ◌++◌, length}
 use Rattle.clause_store.specs.declared.lit.Lit.{Lit}
-use Rattle.clause_store.specs.Lits.{positive_lit}
-use Rattle.clause_store.specs.Truth.{Satisfies}
-use Rattle.clause_store.specs.Extends.{Extends, Are, Always}
+use Rattle.clause_store.specs.Truth.{AreTrue}
+use Rattle.clause_store.specs.Extends.{Extends, Always}
+use Rattle.clause_store.specs.Fresh.{fresh_vars, fresh_lits}
 use Rattle.formulas.specs.declared.formula.Formula.{Formula}
 use Rattle.formulas.specs.Formulas.{nodes_of, holds}
 use Rattle.clause_translation.specs.Definition.{definition}
-use Rattle.totalizer.specs.Counter.{Due, fresh_vars, count_of, IsUnary, AreFresh}
+use Rattle.totalizer.specs.Counter.{Due, count_of, IsUnary, AreFresh}
 use Rattle.agent_copies.specs.Counter.{truth_of}
+use Rattle.agent_copies.specs.Limits.{counter_room}
 
 -- clauses as they are made, the number of variables then, the own literals, the root of the base and the outputs of
 -- the counter
@@ -18,10 +19,6 @@ pub record CopyDue : Type 0 where
   pub own : List Lit
   pub root : ℕ
   pub away : List ℕ
-
--- the literals of the n variables after v
-abbrev pub fresh_lits : ℕ → ℕ → List Lit
-fresh_lits v n = map positive_lit (fresh_vars v n)
 
 -- own literals, as many as there are shared ones; the base over them; the counter, for which `due` says what is due
 abbrev pub copy_due : (ℕ → List Lit → List Lit → Due) → ℕ → List Lit → Formula → CopyDue
@@ -37,10 +34,10 @@ copy_due due v shared base =
 -- distinct and fresh
 pub record IsCopy (v : ℕ) (shared : List Lit) (base : Formula) (dist : List Bool → List Bool → ℕ) (top : ℕ) (c : CopyDue) : Type 0 where
   pub own : c.own ≡ fresh_lits v (length shared)
-  pub extends : Extends Always (Are c.clauses) (v + length shared) c.vars
-  pub few : c.vars ≤ v + length shared + nodes_of base + 2 ^ 16
-  pub root : (b : ℕ → Bool) → Satisfies b c.clauses → b c.root ≡ holds base (truth_of b c.own)
-  pub in_order : (b : ℕ → Bool) → Satisfies b c.clauses → IsUnary b c.away
-  pub value : (b : ℕ → Bool) → Satisfies b c.clauses → count_of b c.away ≡ dist (truth_of b shared) (truth_of b c.own)
+  pub extends : Extends Always (AreTrue c.clauses) (v + length shared) c.vars
+  pub few : c.vars ≤ v + length shared + nodes_of base + counter_room
+  pub root : (b : ℕ → Bool) → AreTrue c.clauses b → b c.root ≡ holds base (truth_of b c.own)
+  pub in_order : (b : ℕ → Bool) → AreTrue c.clauses b → IsUnary b c.away
+  pub value : (b : ℕ → Bool) → AreTrue c.clauses b → count_of b c.away ≡ dist (truth_of b shared) (truth_of b c.own)
   pub size : length c.away ≡ top
   pub fresh : AreFresh v c.vars (fresh_vars v (length shared) ++ c.root ∷ c.away)

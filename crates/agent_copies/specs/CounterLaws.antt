@@ -1,26 +1,30 @@
 -- What is due for a distance counts it.
-use Rattle.std.proofs.Common.{◌≡◌, ℕ, zero, suc, ◌+◌, ◌*◌, ◌<◌, ◌≤◌, ◌^◌, Bool, true, false, not, ◌&&◌, ◌||◌, List, [], ◌∷◌, length, refl, sym, ap, ◌∙◌, subst, arith}
+use Rattle.std.proofs.Common.{◌≡◌, ℕ, zero, suc, ◌+◌, ◌*◌, ◌<◌, ◌≤◌, Bool, true, false, not, ◌&&◌, ◌||◌, List, [], ◌∷◌, length, refl, sym, ap, ◌∙◌, subst, arith}
 use Rattle.std.specs.Prelude.{if◌then◌else◌, slice_index}
 use Rattle.clause_store.specs.declared.lit.Lit.{Lit}
 use Rattle.clause_store.specs.Lits.{positive_lit, negated, IsWithin, InRange}
-use Rattle.clause_store.specs.Truth.{Satisfies, lit_true}
-use Rattle.clause_store.specs.Extends.{Extends, Are, Always}
-use Rattle.clause_store.proofs.Truths.{lit_agree, lit_true-negated, all_true-append, and_left, and_right}
-use Rattle.clause_store.proofs.Blocks.{single, nothing, next_are, weaker}
+use Rattle.clause_store.specs.Truth.{AreTrue, lit_true}
+use Rattle.clause_store.specs.Extends.{Extends, Always}
+use Rattle.clause_store.proofs.Truths.{lit_agree, lit_true-negated, both_true}
+use Rattle.clause_store.proofs.Blocks.{single, next_are, no_clause}
+use Rattle.clause_store.specs.Fresh.{fresh_vars}
+use Rattle.clause_store.proofs.Fresh.{length-fresh_vars, index_fresh_vars}
+use Rattle.clause_store.specs.Limits.{var_limit}
+use Rattle.clause_store.proofs.Each.{each_place}
 use Rattle.clause_translation.specs.Definition.{atom_lit}
-use Rattle.clause_translation.proofs.Defines.{lit_at}
 use Rattle.merge_model.specs.Distances.{apart, hamming, drastic}
-use Rattle.totalizer.specs.Counter.{Due, fresh_vars, AllUnary, sum_of, leaves}
+use Rattle.totalizer.specs.Counter.{Due, AllUnary, sum_of, leaves}
 use Rattle.totalizer.specs.Joined.{joined_blocks}
 use Rattle.totalizer.specs.Total.{total_due}
 use Rattle.totalizer.specs.Either.{any_of, either_due}
-use Rattle.totalizer.proofs.FreshVars.{length-fresh_vars, index_fresh_vars, fresh_vars_within}
+use Rattle.totalizer.proofs.FreshVars.{fresh_vars_within}
 use Rattle.totalizer.proofs.Law.{joined_to}
 use Rattle.totalizer.proofs.Totals.{total_law}
 use Rattle.totalizer.proofs.Sizes.{leaves_unary, leaves_within, length-leaves, size, size_leaves, total_size, one_fresh, total_fresh}
 use Rattle.totalizer.proofs.Disjunctions.{either_is}
 use Rattle.agent_copies.specs.Counter.{truth_of, IsCounter}
 use Rattle.agent_copies.specs.Differences.{difference_clauses, difference_at, hamming_due, drastic_due}
+use Rattle.agent_copies.specs.Limits.{shared_limit, counter_room}
 
 -- whether two truth values differ
 abbrev pub differ : Bool → Bool → Bool
@@ -52,13 +56,13 @@ differ_from false false false h = refl
 spelled : (e x y nx ny : Bool) → nx ≡ not x → ny ≡ not y → ((not e || (x || (y || false))) && ((not e || (nx || (ny || false))) && ((e || (nx || (y || false))) && ((e || (x || (ny || false))) && true)))) ≡ ((not e || (x || (y || false))) && ((not e || (not x || (not y || false))) && ((e || (not x || (y || false))) && ((e || (x || (not y || false))) && true))))
 spelled e x y nx ny p q = cc (p, q)
 
-difference_to : (b : ℕ → Bool) (e : ℕ) (x y : Lit) → Satisfies b (difference_clauses (positive_lit e) x y) → b e ≡ differ (lit_true b x) (lit_true b y)
+difference_to : (b : ℕ → Bool) (e : ℕ) (x y : Lit) → AreTrue (difference_clauses (positive_lit e) x y) b → b e ≡ differ (lit_true b x) (lit_true b y)
 difference_to b e x y r = differ_to (b e) (lit_true b x) (lit_true b y) (sym (spelled (b e) (lit_true b x) (lit_true b y) (lit_true b (negated x)) (lit_true b (negated y)) (lit_true-negated b x) (lit_true-negated b y)) ∙ r)
 
-difference_from : (b : ℕ → Bool) (e : ℕ) (x y : Lit) → b e ≡ differ (lit_true b x) (lit_true b y) → Satisfies b (difference_clauses (positive_lit e) x y)
+difference_from : (b : ℕ → Bool) (e : ℕ) (x y : Lit) → b e ≡ differ (lit_true b x) (lit_true b y) → AreTrue (difference_clauses (positive_lit e) x y) b
 difference_from b e x y r = spelled (b e) (lit_true b x) (lit_true b y) (lit_true b (negated x)) (lit_true b (negated y)) (lit_true-negated b x) (lit_true-negated b y) ∙ differ_from (b e) (lit_true b x) (lit_true b y) r
 
-difference_defines : (v : ℕ) (x y : Lit) → IsWithin v x → IsWithin v y → Extends Always (Are (difference_clauses (positive_lit (v + 1)) x y)) v (v + 1)
+difference_defines : (v : ℕ) (x y : Lit) → IsWithin v x → IsWithin v y → Extends Always (AreTrue (difference_clauses (positive_lit (v + 1)) x y)) v (v + 1)
 difference_defines v x y hx hy =
     let wx : IsWithin (v + 1) x = (hx.0, let z = hx.1 in omega arith) in
     let wy : IsWithin (v + 1) y = (hy.0, let z = hy.1 in omega arith) in
@@ -72,20 +76,20 @@ difference_defines v x y hx hy =
 wider : (v w : ℕ) (l : Lit) → v ≤ w → IsWithin v l → IsWithin w l
 wider v w l le h = (h.0, let z = h.1 in omega arith)
 
-differences_define : (v : ℕ) (xs ys : List Lit) (n : ℕ) → n ≤ length xs → n ≤ length ys → InRange v xs → InRange v ys → Extends Always (Are (joined_blocks (difference_at v xs ys) n)) v (v + n)
+differences_define : (v : ℕ) (xs ys : List Lit) (n : ℕ) → n ≤ length xs → n ≤ length ys → InRange v xs → InRange v ys → Extends Always (AreTrue (joined_blocks (difference_at v xs ys) n)) v (v + n)
 differences_define v xs ys zero hx hy rx ry = let z : v ≡ v + 0 = omega arith in
-    subst (λ w. Extends Always (Are []) v w) z (weaker Always Always (Are []) Always v v (nothing Always v (λ a b h p. tt)) (λ a b h p. tt) (λ a b h r. refl) (λ b p. p) (λ b p r. tt) (λ b p r. refl))
+    subst (λ w. Extends Always (AreTrue []) v w) z (no_clause Always v (λ a b h p. tt))
 differences_define v xs ys (suc n) hx hy rx ry =
     let z : v + n + 1 ≡ v + suc n = omega arith in
-    subst (λ w. Extends Always (Are (joined_blocks (difference_at v xs ys) (suc n))) v w) z
+    subst (λ w. Extends Always (AreTrue (joined_blocks (difference_at v xs ys) (suc n))) v w) z
     (next_are Always Always v (v + n) (v + n + 1) (joined_blocks (difference_at v xs ys) n) (difference_at v xs ys n) (differences_define v xs ys n (omega arith) (omega arith) rx ry)
-    (difference_defines (v + n) (atom_lit xs n) (atom_lit ys n) (wider v (v + n) (atom_lit xs n) (omega arith) (lit_at v xs n rx (omega arith))) (wider v (v + n) (atom_lit ys n) (omega arith) (lit_at v ys n ry (omega arith)))) (λ b p r. tt))
+    (difference_defines (v + n) (atom_lit xs n) (atom_lit ys n) (wider v (v + n) (atom_lit xs n) (omega arith) (each_place (IsWithin v) xs n (positive_lit 0) rx (omega arith))) (wider v (v + n) (atom_lit ys n) (omega arith) (each_place (IsWithin v) ys n (positive_lit 0) ry (omega arith)))) (λ b p r. tt))
 
 -- each difference variable has its value
 abbrev pub AreDifferences : (ℕ → Bool) → ℕ → List Lit → List Lit → Type 0
 AreDifferences b v xs ys = (k : ℕ) → k < length xs → b (v + k + 1) ≡ differ (lit_true b (atom_lit xs k)) (lit_true b (atom_lit ys k))
 
-are_differences : (b : ℕ → Bool) (v : ℕ) (xs ys : List Lit) → Satisfies b (joined_blocks (difference_at v xs ys) (length xs)) → AreDifferences b v xs ys
+are_differences : (b : ℕ → Bool) (v : ℕ) (xs ys : List Lit) → AreTrue (joined_blocks (difference_at v xs ys) (length xs)) b → AreDifferences b v xs ys
 are_differences b v xs ys r = λ k lt. difference_to b (v + k + 1) (atom_lit xs k) (atom_lit ys k) (joined_to b (difference_at v xs ys) (length xs) r k lt)
 
 later : (b : ℕ → Bool) (v : ℕ) (x y : Lit) (xs ys : List Lit) → AreDifferences b v (x ∷ xs) (y ∷ ys) → AreDifferences b (v + 1) xs ys
@@ -132,14 +136,14 @@ some_differs b v (x ∷ xs) (y ∷ ys) e h =
 mul_le : (n k : ℕ) → n ≤ k → n * n ≤ k * k
 mul_le n k h = grind arith
 
-big : (v n m s w : ℕ) → n ≤ 64 → m ≡ n → s ≡ n → w ≤ (v + n) + m * s → w ≤ v + 2 ^ 16
-big v n m s w h e f g = let x : n * n ≤ 64 * 64 = mul_le n 64 h in let y : m * s ≡ n * n = cc in omega arith
+big : (v n m s w : ℕ) → n ≤ shared_limit → m ≡ n → s ≡ n → w ≤ (v + n) + m * s → w ≤ v + counter_room
+big v n m s w h e f g = let x : n * n ≤ shared_limit * shared_limit = mul_le n shared_limit h in let y : m * s ≡ n * n = cc in omega arith
 
 -- the total of the difference variables is small
 abbrev pub hamming_total : ℕ → ℕ → Due
 hamming_total v n = total_due (v + n) (leaves (fresh_vars v n))
 
-hamming_few : (v n : ℕ) → 1 ≤ n → n ≤ 64 → (hamming_total v n).vars ≤ v + 2 ^ 16
+hamming_few : (v n : ℕ) → 1 ≤ n → n ≤ shared_limit → (hamming_total v n).vars ≤ v + counter_room
 hamming_few v n lo hi =
     let ls = leaves (fresh_vars v n) in
     let a = length-leaves (fresh_vars v n) ∙ length-fresh_vars v n in
@@ -159,7 +163,7 @@ between v n k lt =
     (omega arith, omega arith)
 
 -- what is due for the Hamming distance counts it
-pub hamming_is : (v : ℕ) (xs ys : List Lit) → length xs ≡ length ys → 1 ≤ length xs → length xs ≤ 64 → InRange v xs → InRange v ys → IsCounter v xs ys hamming (length xs) (hamming_due v xs ys)
+pub hamming_is : (v : ℕ) (xs ys : List Lit) → length xs ≡ length ys → 1 ≤ length xs → length xs ≤ shared_limit → InRange v xs → InRange v ys → IsCounter v xs ys hamming (length xs) (hamming_due v xs ys)
 hamming_is v xs ys e lo hi hx hy =
     let n = length xs in
     let vars = fresh_vars v n in
@@ -167,34 +171,32 @@ hamming_is v xs ys e lo hi hx hy =
     let ds = joined_blocks (difference_at v xs ys) n in
     let a = length-leaves vars ∙ length-fresh_vars v n in
     let t = total_law (v + n) ls (omega (arith, a)) (leaves_within (v + n) vars (fresh_vars_within v n (v + n) (omega arith))) in
-    let split : (b : ℕ → Bool) → Are (hamming_due v xs ys).clauses b → Are ds b × Are (hamming_total v n).clauses b = λ b r. let s = sym (all_true-append b ds (hamming_total v n).clauses) ∙ r in (and_left _ _ s, and_right _ _ s) in
     record {
       extends = next_are Always (λ b. AllUnary b ls) v (v + n) (hamming_total v n).vars ds (hamming_total v n).clauses (differences_define v xs ys n (omega arith) (omega arith) hx hy) t.extends (λ b p r. leaves_unary b vars);
       few = hamming_few v n lo hi;
       size = hamming_size v n lo;
       fresh = total_fresh (length ls) v (v + n) vars (omega (arith, length-fresh_vars v n)) (omega (arith, length-leaves vars)) (omega arith) (between v n);
-      in_order = λ b r. t.in_order b (leaves_unary b vars) (split b r).1;
-      value = λ b r. t.value b (leaves_unary b vars) (split b r).1 ∙ leaves_sum b v xs ys e (are_differences b v xs ys (split b r).0);
+      in_order = λ b r. t.in_order b (leaves_unary b vars) (both_true b ds (hamming_total v n).clauses r).1;
+      value = λ b r. t.value b (leaves_unary b vars) (both_true b ds (hamming_total v n).clauses r).1 ∙ leaves_sum b v xs ys e (are_differences b v xs ys (both_true b ds (hamming_total v n).clauses r).0);
     }
 
 -- what is due for the drastic distance counts it
-pub drastic_is : (v : ℕ) (xs ys : List Lit) → length xs ≡ length ys → 1 ≤ length xs → length xs ≤ 64 → InRange v xs → InRange v ys → IsCounter v xs ys drastic 1 (drastic_due v xs ys)
+pub drastic_is : (v : ℕ) (xs ys : List Lit) → length xs ≡ length ys → 1 ≤ length xs → length xs ≤ shared_limit → InRange v xs → InRange v ys → IsCounter v xs ys drastic 1 (drastic_due v xs ys)
 drastic_is v xs ys e lo hi hx hy =
     let n = length xs in
     let vars = fresh_vars v n in
     let d = either_due (v + n) vars in
     let ds = joined_blocks (difference_at v xs ys) n in
     let t = either_is (v + n) vars (fresh_vars_within v n (v + n) (omega arith)) in
-    let split : (b : ℕ → Bool) → Are (drastic_due v xs ys).clauses b → Are ds b × Are d.clauses b = λ b r. let s = sym (all_true-append b ds d.clauses) ∙ r in (and_left _ _ s, and_right _ _ s) in
     record {
       extends = next_are Always Always v (v + n) (v + n + 1) ds d.clauses (differences_define v xs ys n (omega arith) (omega arith) hx hy) t.extends (λ b p r. tt);
       few = omega arith;
       size = refl;
       fresh = one_fresh v (v + n + 1) (v + n + 1) (omega arith) (omega arith);
-      in_order = λ b r. t.in_order b (split b r).1;
-      value = λ b r. t.value b (split b r).1 ∙ some_differs b v xs ys e (are_differences b v xs ys (split b r).0);
+      in_order = λ b r. t.in_order b (both_true b ds d.clauses r).1;
+      value = λ b r. t.value b (both_true b ds d.clauses r).1 ∙ some_differs b v xs ys e (are_differences b v xs ys (both_true b ds d.clauses r).0);
     }
 
 -- there is room for the total of the difference variables
-pub hamming_room : (v n : ℕ) → 1 ≤ n → n ≤ 64 → v + 2 ^ 16 ≤ 2 ^ 31 → (hamming_total v n).vars ≤ 2 ^ 31
+pub hamming_room : (v n : ℕ) → 1 ≤ n → n ≤ shared_limit → v + counter_room ≤ var_limit → (hamming_total v n).vars ≤ var_limit
 hamming_room v n lo hi room = let h = hamming_few v n lo hi in omega arith

@@ -2,8 +2,9 @@
 use Rattle.std.specs.Prelude.{ℕ, ◌+◌, List, [], ◌∷◌, ◌++◌, length}
 use Rattle.clause_store.specs.declared.lit.Lit.{Lit}
 use Rattle.clause_store.specs.Lits.{positive_lit, negated}
+use Rattle.clause_store.specs.Fresh.{fresh_vars}
 use Rattle.clause_translation.specs.Definition.{atom_lit}
-use Rattle.totalizer.specs.Counter.{Due, fresh_vars, leaves}
+use Rattle.totalizer.specs.Counter.{Due, leaves}
 use Rattle.totalizer.specs.Joined.{joined_blocks}
 use Rattle.totalizer.specs.Total.{total_due}
 use Rattle.totalizer.specs.Either.{either_due}

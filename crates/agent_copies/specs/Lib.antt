@@ -1,3 +1,4 @@
+pub mod Limits
 pub mod Counter
 pub mod Differences
 pub mod CounterLaws

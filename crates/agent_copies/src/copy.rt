@@ -1,10 +1,13 @@
 // The copy of an agent.
 
-ghost use Rattle.std.specs.Prelude.{◌≡◌, ℕ, ◌+◌, ◌<◌, ◌≤◌, ◌^◌, [], ◌∷◌, ◌++◌, IfOk, OnOk, OnErr, length, map};
+ghost use Rattle.std.specs.Prelude.{◌≡◌, ◌+◌, ◌<◌, ◌≤◌, ◌++◌, IfOk, OnOk, OnErr, length, map};
 ghost use Rattle.clause_store.specs.Lits.{positive_lit, sorted_clause, InRange};
 ghost use Rattle.clause_store.specs.Grew.{Grew};
+ghost use Rattle.clause_store.specs.Fresh.{fresh_lits};
+ghost use Rattle.clause_store.specs.Limits.{var_limit};
 ghost use Rattle.formulas.specs.Formulas.{nodes_of, width_of};
-ghost use Rattle.agent_copies.specs.Copy.{fresh_lits, copy_due, IsCopy};
+ghost use Rattle.agent_copies.specs.Copy.{copy_due, IsCopy};
+ghost use Rattle.agent_copies.specs.Limits.{counter_room, shared_limit};
 
 use crate::counted::Counted;
 use clause_store::{ClauseList, Lit};
@@ -27,22 +30,6 @@ pub struct AgentCopy {
     pub away: Unary,
 }
 
-// That many fresh literals.
-#[tactic(auto, using(crate::proofs::Steps::fresh_lits_step))]
-fn fresh_lits(alloc: Global, clauses: &mut ClauseList, count: usize) -> Result<Vec<Lit>, NoMemory>
-    requires { clauses.old.vars + count ≤ 2 ^ 31 }
-    ensures lits { IfOk result (λ lits. lits.items ≡ fresh_lits clauses.old.vars count) }
-    ensures vars { OnOk result (clauses.new.vars ≡ clauses.old.vars + count) }
-    ensures list { clauses.new.list ≡ clauses.old.list }
-    ensures more { clauses.old.vars ≤ clauses.new.vars }
-{
-    let mut lits = Vec::with_capacity(alloc, count)?;
-    for i in 0..count {
-        lits.push(clauses.fresh())?;
-    }
-    Ok(lits)
-}
-
 /// Copies an agent: appends own literals, one for each of the 1 to 64 shared ones, the clauses of its base over
 /// them, and the clauses of the counter of the distance. After `NoMemory` the list has grown by some variables and
 /// some of these clauses, from the first on.
@@ -54,11 +41,10 @@ pub fn copy_agent<D: Counted>(
     distance: &D,
 ) -> Result<AgentCopy, NoMemory>
     requires some { 1 ≤ length shared.now }
-    requires few { length shared.now ≤ 64 }
+    requires few { length shared.now ≤ shared_limit }
     requires shared_in { InRange clauses.old.vars shared.now }
-    requires few_nodes { nodes_of base.now ≤ 4096 }
     requires known { width_of base.now ≤ length shared.now }
-    requires room { clauses.old.vars + length shared.now + nodes_of base.now + 2 ^ 16 ≤ 2 ^ 31 }
+    requires room { clauses.old.vars + length shared.now + nodes_of base.now + counter_room ≤ var_limit }
     ensures own { IfOk result (λ copy. copy.own ≡ (copy_due (D.due distance.now) clauses.old.vars shared.now base.now).own) }
     ensures root { IfOk result (λ copy. copy.root ≡ positive_lit (copy_due (D.due distance.now) clauses.old.vars shared.now base.now).root) }
     ensures away { IfOk result (λ copy. copy.away ≡ (copy_due (D.due distance.now) clauses.old.vars shared.now base.now).away) }
@@ -69,7 +55,7 @@ pub fn copy_agent<D: Counted>(
     // what the clauses mean
     ensures copies { IsCopy clauses.old.vars shared.now base.now (D.dist distance.now) (D.most distance.now (length shared.now)) (copy_due (D.due distance.now) clauses.old.vars shared.now base.now) }
 {
-    let own = fresh_lits(alloc, clauses, shared.len())?;
+    let own = clauses.fresh_lits(shared.len())?;
     let root = define(clauses, base, &own)?;
     let away = distance.counter(alloc, clauses, shared, &own)?;
     let own = Sequence::from_vec(own);

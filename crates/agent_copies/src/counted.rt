@@ -1,13 +1,15 @@
 // Distances with counters.
 
-ghost use Rattle.std.specs.Prelude.{◌≡◌, ℕ, ◌+◌, ◌<◌, ◌≤◌, ◌^◌, Bool, List, [], ◌∷◌, ◌++◌, IfOk, OnOk, OnErr, length, map};
+ghost use Rattle.std.specs.Prelude.{◌≡◌, ℕ, ◌+◌, ◌<◌, ◌≤◌, List, ◌++◌, IfOk, OnOk, OnErr, length, map};
 ghost use Rattle.clause_store.specs.declared.lit.Lit.{Lit as Literal};
 ghost use Rattle.clause_store.specs.Lits.{sorted_clause, InRange};
 ghost use Rattle.clause_store.specs.Grew.{Grew};
+ghost use Rattle.clause_store.specs.Limits.{var_limit};
 ghost use Rattle.totalizer.specs.Counter.{Due};
 ghost use Rattle.agent_copies.specs.Counter.{IsCounter};
+ghost use Rattle.agent_copies.specs.Limits.{counter_room, shared_limit};
 
-use crate::difference::{add_differences, vars_after};
+use crate::difference::add_differences;
 use clause_store::{ClauseList, Lit};
 use edge::NoMemory;
 use merge_model::{Distance, Drastic, Hamming};
@@ -33,17 +35,17 @@ pub trait Counted: Distance {
     ) -> Result<Unary, NoMemory>
         requires lengths { length shared.now ≡ length own.now }
         requires some { 1 ≤ length shared.now }
-        requires few { length shared.now ≤ 64 }
+        requires few { length shared.now ≤ shared_limit }
         requires shared_in { InRange clauses.old.vars shared.now }
         requires own_in { InRange clauses.old.vars own.now }
-        requires room { clauses.old.vars + 2 ^ 16 ≤ 2 ^ 31 }
+        requires room { clauses.old.vars + counter_room ≤ var_limit }
         ensures outputs { IfOk result (λ r. r ≡ (due self.now clauses.old.vars shared.now own.now).outputs) }
         ensures vars { OnOk result (clauses.new.vars ≡ (due self.now clauses.old.vars shared.now own.now).vars) }
         ensures list { OnOk result (clauses.new.list ≡ clauses.old.list ++ map sorted_clause (due self.now clauses.old.vars shared.now own.now).clauses) }
         ensures err { OnErr result (Grew clauses.old clauses.new (due self.now clauses.old.vars shared.now own.now).clauses) };
 
     /// What a counter takes counts the distance.
-    ghost counts: { (d : Self) (v : ℕ) (shared own : List Literal) → length shared ≡ length own → 1 ≤ length shared → length shared ≤ 64 → InRange v shared → InRange v own →
+    ghost counts: { (d : Self) (v : ℕ) (shared own : List Literal) → length shared ≡ length own → 1 ≤ length shared → length shared ≤ shared_limit → InRange v shared → InRange v own →
         IsCounter v shared own (Self.dist d) (Self.most d (length shared)) (due d v shared own) };
 }
 
@@ -62,9 +64,10 @@ impl Counted for Hamming {
         shared: &[Lit],
         own: &[Lit],
     ) -> Result<Unary, NoMemory> {
-        let vars = vars_after(alloc, clauses.vars(), shared.len())?;
+        let base = clauses.vars();
+        let vars = clauses.fresh_vars(shared.len())?;
         let parts = leaves(alloc, &vars)?;
-        add_differences(clauses, shared, own)?;
+        add_differences(clauses, base, shared, own)?;
         total(alloc, clauses, &parts)
     }
 }
@@ -84,8 +87,9 @@ impl Counted for Drastic {
         shared: &[Lit],
         own: &[Lit],
     ) -> Result<Unary, NoMemory> {
-        let vars = vars_after(alloc, clauses.vars(), shared.len())?;
-        add_differences(clauses, shared, own)?;
+        let base = clauses.vars();
+        let vars = clauses.fresh_vars(shared.len())?;
+        add_differences(clauses, base, shared, own)?;
         either(alloc, clauses, &vars)
     }
 }

@@ -1,15 +1,14 @@
 // Difference variables.
 
-ghost use Rattle.std.specs.Prelude.{◌≡◌, ℕ, ◌+◌, ◌<◌, ◌≤◌, ◌^◌, [], ◌∷◌, ◌++◌, IfOk, OnOk, OnErr, length, map};
+ghost use Rattle.std.specs.Prelude.{◌≡◌, ◌+◌, ◌<◌, ◌≤◌, ◌++◌, OnOk, OnErr, length, map};
 ghost use Rattle.clause_store.specs.Lits.{sorted_clause, IsWithin, InRange};
 ghost use Rattle.clause_store.specs.Grew.{Grew};
-ghost use Rattle.totalizer.specs.Counter.{fresh_vars};
+ghost use Rattle.clause_store.specs.Limits.{var_limit};
 ghost use Rattle.totalizer.specs.Joined.{joined_blocks};
 ghost use Rattle.agent_copies.specs.Differences.{difference_clauses, difference_at};
 
 use clause_store::{ClauseList, Lit};
 use edge::NoMemory;
-use std::alloc::Global;
 
 // The clauses of one difference.
 #[tactic(auto, using(clause_store::proofs::Grows::grew_none, clause_store::proofs::Grows::grew_one, clause_store::proofs::Grows::grew_two, clause_store::proofs::Grows::grew_three))]
@@ -33,36 +32,25 @@ fn add_difference(
     Ok(())
 }
 
-/// A fresh variable for each place, true exactly where the literals there differ.
+/// The clauses of the variables after `base`, one for each place, each true exactly where the literals there differ.
 pub fn add_differences(
     clauses: &mut ClauseList,
+    base: u32,
     shared: &[Lit],
     own: &[Lit],
 ) -> Result<(), NoMemory>
     requires lengths { length shared.now ≡ length own.now }
+    requires room { base + length shared.now ≤ clauses.old.vars }
+    requires few { clauses.old.vars ≤ var_limit }
     requires shared_in { InRange clauses.old.vars shared.now }
     requires own_in { InRange clauses.old.vars own.now }
-    requires room { clauses.old.vars + length shared.now ≤ 2 ^ 31 }
-    ensures vars { OnOk result (clauses.new.vars ≡ clauses.old.vars + length shared.now) }
-    ensures list { OnOk result (clauses.new.list ≡ clauses.old.list ++ map sorted_clause (joined_blocks (difference_at clauses.old.vars shared.now own.now) (length shared.now))) }
-    ensures err { OnErr result (Grew clauses.old clauses.new (joined_blocks (difference_at clauses.old.vars shared.now own.now) (length shared.now))) }
+    ensures vars { clauses.new.vars ≡ clauses.old.vars }
+    ensures list { OnOk result (clauses.new.list ≡ clauses.old.list ++ map sorted_clause (joined_blocks (difference_at base shared.now own.now) (length shared.now))) }
+    ensures err { OnErr result (Grew clauses.old clauses.new (joined_blocks (difference_at base shared.now own.now) (length shared.now))) }
 {
     for i in 0..shared.len() {
-        let difference = clauses.fresh();
+        let difference = Lit::positive(base + i as u32 + 1);
         add_difference(clauses, difference, shared[i], own[i])?;
     }
     Ok(())
-}
-
-/// The variables after one.
-#[tactic(auto, using(totalizer::proofs::FreshVars::fresh_vars_next))]
-pub fn vars_after(alloc: Global, last: u32, count: usize) -> Result<Vec<u32>, NoMemory>
-    requires { last + count ≤ 2 ^ 31 }
-    ensures { IfOk result (λ vars. vars.items ≡ fresh_vars last count) }
-{
-    let mut vars = Vec::with_capacity(alloc, count)?;
-    for i in 0..count {
-        vars.push(last + i as u32 + 1)?;
-    }
-    Ok(vars)
 }

@@ -7,31 +7,35 @@ use merge_model::{Drastic, Hamming};
 use std::process::Abort;
 use std::test::Fail;
 
-fn yes(var: u32) -> Lit {
-    Lit {
-        var,
-        positive: true,
-    }
-}
-
-fn no(var: u32) -> Lit {
-    Lit {
-        var,
-        positive: false,
-    }
-}
-
 // The base over the own literal, and the difference of the two literals.
 fn assert_copied(rt: &impl Abort, clauses: &ClauseList, copy: &AgentCopy) {
-    assert_eq!(rt; copy.own.as_slice(), [yes(2)].as_slice());
-    assert_eq!(rt; copy.root, yes(3));
+    assert_eq!(rt; copy.own.as_slice(), [Lit::positive(2)].as_slice());
+    assert_eq!(rt; copy.root, Lit::positive(3));
     assert!(rt; clauses.len() >= 6);
-    assert_eq!(rt; clauses.clause(0), [yes(2), no(3)].as_slice());
-    assert_eq!(rt; clauses.clause(1), [no(2), yes(3)].as_slice());
-    assert_eq!(rt; clauses.clause(2), [yes(1), yes(2), no(4)].as_slice());
-    assert_eq!(rt; clauses.clause(3), [no(1), no(2), no(4)].as_slice());
-    assert_eq!(rt; clauses.clause(4), [no(1), yes(2), yes(4)].as_slice());
-    assert_eq!(rt; clauses.clause(5), [yes(1), no(2), yes(4)].as_slice());
+    assert_eq!(rt;
+        clauses.clause(0),
+        [Lit::positive(2), Lit::negative(3)].as_slice()
+    );
+    assert_eq!(rt;
+        clauses.clause(1),
+        [Lit::negative(2), Lit::positive(3)].as_slice()
+    );
+    assert_eq!(rt;
+        clauses.clause(2),
+        [Lit::positive(1), Lit::positive(2), Lit::negative(4)].as_slice()
+    );
+    assert_eq!(rt;
+        clauses.clause(3),
+        [Lit::negative(1), Lit::negative(2), Lit::negative(4)].as_slice()
+    );
+    assert_eq!(rt;
+        clauses.clause(4),
+        [Lit::negative(1), Lit::positive(2), Lit::positive(4)].as_slice()
+    );
+    assert_eq!(rt;
+        clauses.clause(5),
+        [Lit::positive(1), Lit::negative(2), Lit::positive(4)].as_slice()
+    );
 }
 
 #[test]
@@ -65,7 +69,13 @@ fn the_drastic_copy_of_an_atom_asks_for_some_difference(rt: HostRuntime) -> Resu
     assert_copied(&rt, &clauses, &copy);
     assert_eq!(rt; copy.away.outputs(), [5].as_slice());
     assert_eq!(rt; clauses.len(), 8);
-    assert_eq!(rt; clauses.clause(6), [no(4), yes(5)].as_slice());
-    assert_eq!(rt; clauses.clause(7), [yes(4), no(5)].as_slice());
+    assert_eq!(rt;
+        clauses.clause(6),
+        [Lit::negative(4), Lit::positive(5)].as_slice()
+    );
+    assert_eq!(rt;
+        clauses.clause(7),
+        [Lit::positive(4), Lit::negative(5)].as_slice()
+    );
     Ok(())
 }

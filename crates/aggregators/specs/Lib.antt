@@ -1,3 +1,4 @@
+pub mod Limits
 pub mod LevelValues
 pub mod Levels
 pub mod LeximaxLevels

@@ -5,13 +5,16 @@ use Rattle.std.proofs.lemmas.Bool.Decides.{nat_tests}
 use Rattle.std.proofs.lemmas.List.{append-nil, length-map}
 use Rattle.std.specs.List.{concat}
 use Rattle.std.proofs.lemmas.List.Elements.{All-head, All-tail}
-use Rattle.clause_store.specs.Extends.{Extends, Are, Always}
-use Rattle.clause_store.proofs.Blocks.{weaker, next_are}
-use Rattle.totalizer.specs.Counter.{fresh_vars, count_of, AllUnary, AllVarsWithin}
+use Rattle.clause_store.specs.Truth.{AreTrue}
+use Rattle.clause_store.specs.Extends.{Extends, Always}
+use Rattle.clause_store.proofs.Blocks.{weaker, next_are, no_clause}
+use Rattle.clause_store.specs.Fresh.{fresh_vars}
+use Rattle.clause_store.proofs.Fresh.{length-fresh_vars, index_fresh_vars}
+use Rattle.totalizer.specs.Counter.{count_of, AllUnary, AllVarsWithin}
 use Rattle.totalizer.specs.Either.{any_of, either_due}
 use Rattle.totalizer.specs.Joined.{joined_blocks}
 use Rattle.totalizer.proofs.Disjunctions.{either_is, either_to}
-use Rattle.totalizer.proofs.FreshVars.{length-fresh_vars, index_fresh_vars, fresh_vars_within, fresh_vars_are, count_fresh_vars}
+use Rattle.totalizer.proofs.FreshVars.{fresh_vars_within, fresh_vars_are, count_fresh_vars}
 use Rattle.totalizer.proofs.Law.{count_le, joined_to, more_vars}
 use Rattle.totalizer.proofs.Totals.{all_unary_agree}
 use Rattle.ranks.specs.Ranks.{greatest}
@@ -22,19 +25,19 @@ use Rattle.merge_model.proofs.Fulls.{repeated_small}
 use Rattle.aggregators.specs.LevelValues.{max_values}
 use Rattle.aggregators.specs.Levels.{counts_of, top_of, column, output_clauses, max_due, HaveLevels, AreLevels}
 use Rattle.aggregators.specs.LevelOutputs.{HaveOutputs, fresh_have}
-use Rattle.aggregators.specs.LeximaxLevels.{no_clause, column_within}
+use Rattle.aggregators.specs.LeximaxLevels.{column_within}
 
-pub outputs_extend : (n m v : ℕ) (aways : List (List ℕ)) → AllVarsWithin v aways → All (λ c. length c ≡ m) aways → n ≤ m → Extends Always (Are (joined_blocks (output_clauses v aways) n)) v (v + n)
-outputs_extend zero m v aways w s le = subst (λ (u : ℕ). Extends Always (Are []) v u) (let e : v ≡ v + 0 = omega arith in e) (no_clause v)
+pub outputs_extend : (n m v : ℕ) (aways : List (List ℕ)) → AllVarsWithin v aways → All (λ c. length c ≡ m) aways → n ≤ m → Extends Always (AreTrue (joined_blocks (output_clauses v aways) n)) v (v + n)
+outputs_extend zero m v aways w s le = subst (λ (u : ℕ). Extends Always (AreTrue []) v u) (let e : v ≡ v + 0 = omega arith in e) (no_clause Always v (λ a b h p. tt))
 outputs_extend (suc n) m v aways w s le =
     let d = either_due (v + n) (column n aways) in
-    subst (λ (u : ℕ). Extends Always (Are (joined_blocks (output_clauses v aways) (suc n))) v u) (let e : v + n + 1 ≡ v + suc n = omega arith in e)
+    subst (λ (u : ℕ). Extends Always (AreTrue (joined_blocks (output_clauses v aways) (suc n))) v u) (let e : v + n + 1 ≡ v + suc n = omega arith in e)
     (next_are Always Always v (v + n) d.vars (joined_blocks (output_clauses v aways) n) d.clauses
     (outputs_extend n m v aways w s (omega arith))
     (either_is (v + n) (column n aways) (more_vars v (v + n) (column n aways) (omega arith) (column_within v n m aways w s (omega arith)))).extends
     (λ b p r. tt))
 
-pub output_is : (b : ℕ → Bool) (m v : ℕ) (aways : List (List ℕ)) → AllVarsWithin v aways → All (λ c. length c ≡ m) aways → Are (joined_blocks (output_clauses v aways) m) b → (k : ℕ) → k < m → b (v + k + 1) ≡ any_of b (column k aways)
+pub output_is : (b : ℕ → Bool) (m v : ℕ) (aways : List (List ℕ)) → AllVarsWithin v aways → All (λ c. length c ≡ m) aways → AreTrue (joined_blocks (output_clauses v aways) m) b → (k : ℕ) → k < m → b (v + k + 1) ≡ any_of b (column k aways)
 output_is b m v aways w s r k lt =
     either_to b (v + k + 1) (column k aways)
     (joined_to b (output_clauses v aways) m r k lt)
@@ -75,16 +78,16 @@ pub max_is : (v : ℕ) (aways : List (List ℕ)) (times : List ℕ) → HaveLeve
 max_is v aways times h =
     let n = top_of aways in
     let cs = joined_blocks (output_clauses v aways) n in
-    let extends : Extends Always (Are cs) v (v + n) = outputs_extend n n v aways h.within h.sized (omega arith) in
-    let tells : (b : ℕ → Bool) → AllUnary b aways → Are cs b → (k : ℕ) → k < n → b (v + k + 1) ≡ nat_lt k (greatest (counts_of b aways)) =
+    let extends : Extends Always (AreTrue cs) v (v + n) = outputs_extend n n v aways h.within h.sized (omega arith) in
+    let tells : (b : ℕ → Bool) → AllUnary b aways → AreTrue cs b → (k : ℕ) → k < n → b (v + k + 1) ≡ nat_lt k (greatest (counts_of b aways)) =
     λ b p r k lt. output_is b n v aways h.within h.sized r k lt ∙ any_column b k n aways p h.sized lt in
-    let count : (b : ℕ → Bool) → AllUnary b aways → Are cs b → count_of b (fresh_vars v n) ≡ greatest (counts_of b aways) =
+    let count : (b : ℕ → Bool) → AllUnary b aways → AreTrue cs b → count_of b (fresh_vars v n) ≡ greatest (counts_of b aways) =
     λ b p r. (let most : greatest (counts_of b aways) ≤ n = greatest_counts b n aways h.sized in
     let is : count_of b (fresh_vars v n) ≡ min n (greatest (counts_of b aways)) = count_fresh_vars v n (greatest (counts_of b aways)) b (tells b p r) in
     omega arith) in
     let o = max_outputs v n (concat aways) in
     record {
-      extends = weaker (λ b. AllUnary b aways) Always (Are cs) (Are cs) v (v + n) extends (λ a b h' p. all_unary_agree v a b aways h' h.within p) extends.within (λ b p. tt) (λ b p r. r) (λ b p r. r);
+      extends = weaker (λ b. AllUnary b aways) Always (AreTrue cs) (AreTrue cs) v (v + n) extends (λ a b h' p. all_unary_agree v a b aways h' h.within p) extends.within (λ b p. tt) (λ b p r. r) (λ b p r. r);
       few = omega (arith, h.small);
       within = (fresh_vars_within v n (v + n) (omega arith), tt);
       in_order = λ b p r. (

@@ -1,9 +1,10 @@
 -- The level of the sum.
-use Rattle.std.proofs.Common.{◌≡◌, ℕ, ◌+◌, ◌*◌, ◌≤◌, ◌^◌, Bool, List, [], ◌∷◌, length, refl, ap, ◌∙◌, subst, arith, All, sum}
+use Rattle.std.proofs.Common.{◌≡◌, ℕ, ◌+◌, ◌*◌, ◌≤◌, Bool, List, [], ◌∷◌, length, refl, ap, ◌∙◌, subst, arith, All, sum}
 use Rattle.std.specs.List.{concat}
 use Rattle.std.proofs.lemmas.List.Sums.{sum_by-cons, sum_by-le}
 use Rattle.std.proofs.lemmas.List.Elements.{All-head, All-tail}
-use Rattle.clause_store.specs.Extends.{Are}
+use Rattle.ranks.specs.Limits.{entry_limit, distance_limit}
+use Rattle.clause_store.specs.Truth.{AreTrue}
 use Rattle.clause_store.proofs.Blocks.{weaker}
 use Rattle.totalizer.specs.Counter.{Due, count_of, AllUnary, sum_of}
 use Rattle.totalizer.specs.Total.{total_due}
@@ -15,21 +16,22 @@ use Rattle.aggregators.specs.LevelValues.{sum_values}
 use Rattle.aggregators.specs.Levels.{counts_of, top_of, sum_due, HaveLevels, AreLevels}
 use Rattle.aggregators.specs.Repeats.{unary_repeated, within_repeated, sized_repeated, counts_repeated, length_repeated, some_repeated, repeated_alone}
 use Rattle.aggregators.specs.LevelOutputs.{total_outputs}
+use Rattle.aggregators.specs.Limits.{levels_room}
 
-size_at_most : (m : ℕ) (cs : List (List ℕ)) → m ≤ 4096 → All (λ c. length c ≡ m) cs → size cs ≤ 4096 * length cs
+size_at_most : (m : ℕ) (cs : List (List ℕ)) → m ≤ distance_limit → All (λ c. length c ≡ m) cs → size cs ≤ distance_limit * length cs
 size_at_most m [] le h = omega arith
 size_at_most m (c ∷ cs) le h = omega (arith, size_at_most m cs le (All-tail (λ x. length x ≡ m) c cs h), All-head (λ x. length x ≡ m) c cs h)
 
--- at most 64 parts add at most 64 variables for each output
-pub total_bound : (v : ℕ) (parts : List (List ℕ)) → 1 ≤ length parts → length parts ≤ 64 → (total_due v parts).vars ≤ v + 64 * size parts
+-- few parts add few variables for each output
+pub total_bound : (v : ℕ) (parts : List (List ℕ)) → 1 ≤ length parts → length parts ≤ entry_limit → (total_due v parts).vars ≤ v + entry_limit * size parts
 total_bound v parts some few =
-    subst (λ (d : Due). d.vars ≤ v + 64 * size parts) (total_fuel 64 (length parts) v parts few (omega arith)) (total_size 64 v parts some few).0
+    subst (λ (d : Due). d.vars ≤ v + entry_limit * size parts) (total_fuel entry_limit (length parts) v parts few (omega arith)) (total_size entry_limit v parts some few).0
 
 sum_of_counts : (b : ℕ → Bool) (cs : List (List ℕ)) → sum_of b cs ≡ sum (counts_of b cs)
 sum_of_counts b [] = refl
 sum_of_counts b (c ∷ cs) = omega (arith, sum_of_counts b cs, sum_by-cons (λ x. x) (count_of b c) (counts_of b cs))
 
-pub sum_room : (v : ℕ) (aways : List (List ℕ)) (times : List ℕ) → HaveLevels v aways times → (sum_due v aways times).vars ≤ v + 2 ^ 24
+pub sum_room : (v : ℕ) (aways : List (List ℕ)) (times : List ℕ) → HaveLevels v aways times → (sum_due v aways times).vars ≤ v + levels_room
 sum_room v aways times h =
     let parts = repeated times aways in
     omega (
@@ -67,7 +69,7 @@ sum_is v aways times h =
     let t = total_law v parts some (within_repeated v times aways h.within) in
     let o = total_outputs v parts (concat aways) some (λ one. ap concat (repeated_alone times aways h.lengths h.positive one)) in
     record {
-      extends = weaker (λ b. AllUnary b aways) (λ b. AllUnary b parts) (Are d.clauses) (Are d.clauses) v d.vars t.extends (λ a b h' p. all_unary_agree v a b aways h' h.within p) t.extends.within
+      extends = weaker (λ b. AllUnary b aways) (λ b. AllUnary b parts) (AreTrue d.clauses) (AreTrue d.clauses) v d.vars t.extends (λ a b h' p. all_unary_agree v a b aways h' h.within p) t.extends.within
           (λ b p. unary_repeated b times aways p) (λ b p r. r) (λ b p r. r);
       few = sum_room v aways times h;
       within = (t.within, tt);

@@ -1,9 +1,12 @@
-ghost use Rattle.std.specs.Prelude.{◌≡◌, ℕ, ◌+◌, ◌≤◌, ◌^◌, List, ◌++◌, length, map, All, IfOk, OnOk, OnErr};
+ghost use Rattle.std.specs.Prelude.{◌≡◌, ℕ, ◌+◌, ◌≤◌, List, ◌++◌, length, map, All, IfOk, OnOk, OnErr};
 ghost use Rattle.std.specs.Cmp.Lexicographic.{slice_cmp};
 ghost use Rattle.std.specs.Ordering.{nat_cmp};
+ghost use Rattle.ranks.specs.Limits.{entry_limit, distance_limit};
 ghost use Rattle.clause_store.specs.Grew.{Grew};
 ghost use Rattle.clause_store.specs.Lits.{sorted_clause};
+ghost use Rattle.clause_store.specs.Limits.{var_limit};
 ghost use Rattle.aggregators.specs.Levels.{LevelsDue, HaveLevels, AreLevels};
+ghost use Rattle.aggregators.specs.Limits.{levels_room};
 
 use clause_store::ClauseList;
 use edge::NoMemory;
@@ -31,9 +34,9 @@ pub trait Levelled: Aggregator {
     /// `NoMemory` for want of it.
     fn level_values(&self, alloc: Global, full: &[u32], top: u32) -> Result<Vec<u32>, NoMemory>
         requires some { 1 ≤ length full.now }
-        requires few { length full.now ≤ 64 }
+        requires few { length full.now ≤ entry_limit }
         requires within { All (λ k. k ≤ top) full.now }
-        requires small { top ≤ 4096 }
+        requires small { top ≤ distance_limit }
         ensures { IfOk result (λ values. values.items ≡ levels_of self.now full.now top) };
 
     /// The levels of counters of distances that each count so often: 1 to 64 in all, of one length of at most
@@ -47,7 +50,7 @@ pub trait Levelled: Aggregator {
         times: &[u32],
     ) -> Result<Vec<Unary>, NoMemory>
         requires counters { HaveLevels clauses.old.vars aways.now times.now }
-        requires room { clauses.old.vars + 2 ^ 24 ≤ 2 ^ 31 }
+        requires room { clauses.old.vars + levels_room ≤ var_limit }
         ensures levels { IfOk result (λ levels. levels.items ≡ (levels_due self.now clauses.old.vars aways.now times.now).levels) }
         ensures vars { OnOk result (clauses.new.vars ≡ (levels_due self.now clauses.old.vars aways.now times.now).vars) }
         ensures list { OnOk result (clauses.new.list ≡ clauses.old.list ++ map sorted_clause (levels_due self.now clauses.old.vars aways.now times.now).clauses) }

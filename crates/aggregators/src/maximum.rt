@@ -1,7 +1,9 @@
-ghost use Rattle.std.specs.Prelude.{◌≡◌, ◌+◌, ◌<◌, ◌≤◌, ◌^◌, ◌++◌, length, map, All, IfOk, OnOk, OnErr};
+ghost use Rattle.std.specs.Prelude.{◌≡◌, ◌+◌, ◌<◌, ◌≤◌, ◌++◌, length, map, All, IfOk, OnOk, OnErr};
 ghost use Rattle.clause_store.specs.Grew.{Grew};
 ghost use Rattle.clause_store.specs.Lits.{sorted_clause};
-ghost use Rattle.totalizer.specs.Counter.{fresh_vars, AllVarsWithin};
+ghost use Rattle.clause_store.specs.Fresh.{fresh_vars};
+ghost use Rattle.clause_store.specs.Limits.{var_limit};
+ghost use Rattle.totalizer.specs.Counter.{AllVarsWithin};
 ghost use Rattle.totalizer.specs.Either.{either_due};
 ghost use Rattle.totalizer.specs.Joined.{joined_blocks};
 ghost use Rattle.aggregators.specs.Levels.{column, output_clauses};
@@ -59,7 +61,7 @@ fn add_output(
     requires some { 1 ≤ length aways.now }
     requires long { All (λ away. k < length away) aways.now }
     requires within { AllVarsWithin clauses.old.vars aways.now }
-    requires room { clauses.old.vars < 2 ^ 31 }
+    requires room { clauses.old.vars < var_limit }
     ensures output { IfOk result (λ output. output ≡ clauses.old.vars + 1) }
     ensures vars { OnOk result (clauses.new.vars ≡ clauses.old.vars + 1) }
     ensures list { OnOk result (clauses.new.list ≡ clauses.old.list ++ map sorted_clause (either_due clauses.old.vars (column k aways.now)).clauses) }
@@ -80,7 +82,7 @@ fn add_outputs(
     requires some { 1 ≤ length aways.now }
     requires sized { All (λ away. length away ≡ top) aways.now }
     requires within { AllVarsWithin clauses.old.vars aways.now }
-    requires room { clauses.old.vars + top ≤ 2 ^ 31 }
+    requires room { clauses.old.vars + top ≤ var_limit }
     ensures outputs { IfOk result (λ outputs. outputs.items ≡ fresh_vars clauses.old.vars top) }
     ensures vars { OnOk result (clauses.new.vars ≡ clauses.old.vars + top) }
     ensures list { OnOk result (clauses.new.list ≡ clauses.old.list ++ map sorted_clause (joined_blocks (output_clauses clauses.old.vars aways.now) top)) }

@@ -1,10 +1,14 @@
-ghost use Rattle.std.specs.Prelude.{◌≡◌, ◌+◌, ◌*◌, ◌<◌, ◌≤◌, ◌^◌, ◌++◌, length, map, All, IfOk, OnOk, OnErr};
+ghost use Rattle.std.specs.Prelude.{◌≡◌, ◌+◌, ◌*◌, ◌<◌, ◌≤◌, ◌++◌, length, map, All, IfOk, OnOk, OnErr};
+ghost use Rattle.ranks.specs.Limits.{entry_limit};
+ghost use Rattle.ranks.specs.Ranks.{downs};
 ghost use Rattle.clause_store.specs.Grew.{Grew};
 ghost use Rattle.clause_store.specs.Lits.{sorted_clause};
+ghost use Rattle.clause_store.specs.Limits.{var_limit};
 ghost use Rattle.totalizer.specs.Counter.{AllVarsWithin, leaves};
 ghost use Rattle.totalizer.specs.Total.{total_due};
 ghost use Rattle.aggregators.specs.LevelValues.{leximax_values};
 ghost use Rattle.aggregators.specs.Levels.{column, totals_due};
+ghost use Rattle.aggregators.specs.Limits.{level_room};
 
 use crate::Levelled;
 use crate::counters::{outputs_at, repeated_counters};
@@ -50,7 +54,7 @@ impl Levelled for Leximax {
 
 /// How many entries are at least `top`, at least `top - 1`, down to at least 1.
 fn values_down(alloc: Global, full: &[u32], top: u32) -> Result<Vec<u32>, NoMemory>
-    requires { length full.now ≤ 64 }
+    requires { length full.now ≤ entry_limit }
     ensures { IfOk result (λ values. values.items ≡ leximax_values full.now top) }
 {
     let mut values = Vec::new(alloc);
@@ -70,10 +74,10 @@ fn add_level(
     k: usize,
 ) -> Result<Unary, NoMemory>
     requires some { 1 ≤ length parts.now }
-    requires few { length parts.now ≤ 64 }
+    requires few { length parts.now ≤ entry_limit }
     requires long { All (λ part. k < length part) parts.now }
     requires within { AllVarsWithin clauses.old.vars parts.now }
-    requires room { clauses.old.vars + 4096 ≤ 2 ^ 31 }
+    requires room { clauses.old.vars + level_room ≤ var_limit }
     ensures outputs { IfOk result (λ level. level ≡ (total_due clauses.old.vars (leaves (column k parts.now))).outputs) }
     ensures vars { OnOk result (clauses.new.vars ≡ (total_due clauses.old.vars (leaves (column k parts.now))).vars) }
     ensures list { OnOk result (clauses.new.list ≡ clauses.old.list ++ map sorted_clause (total_due clauses.old.vars (leaves (column k parts.now))).clauses) }
@@ -92,14 +96,14 @@ fn add_levels(
     top: usize,
 ) -> Result<Vec<Unary>, NoMemory>
     requires some { 1 ≤ length parts.now }
-    requires few { length parts.now ≤ 64 }
+    requires few { length parts.now ≤ entry_limit }
     requires sized { All (λ part. length part ≡ top) parts.now }
     requires within { AllVarsWithin clauses.old.vars parts.now }
-    requires room { clauses.old.vars + 4096 * top ≤ 2 ^ 31 }
-    ensures levels { IfOk result (λ levels. levels.items ≡ (totals_due top clauses.old.vars parts.now).levels) }
-    ensures vars { OnOk result (clauses.new.vars ≡ (totals_due top clauses.old.vars parts.now).vars) }
-    ensures list { OnOk result (clauses.new.list ≡ clauses.old.list ++ map sorted_clause (totals_due top clauses.old.vars parts.now).clauses) }
-    ensures err { OnErr result (Grew clauses.old clauses.new (totals_due top clauses.old.vars parts.now).clauses) }
+    requires room { clauses.old.vars + level_room * top ≤ var_limit }
+    ensures levels { IfOk result (λ levels. levels.items ≡ (totals_due (downs top) clauses.old.vars parts.now).levels) }
+    ensures vars { OnOk result (clauses.new.vars ≡ (totals_due (downs top) clauses.old.vars parts.now).vars) }
+    ensures list { OnOk result (clauses.new.list ≡ clauses.old.list ++ map sorted_clause (totals_due (downs top) clauses.old.vars parts.now).clauses) }
+    ensures err { OnErr result (Grew clauses.old clauses.new (totals_due (downs top) clauses.old.vars parts.now).clauses) }
 {
     let mut levels = Vec::new(alloc);
     let mut left = top;

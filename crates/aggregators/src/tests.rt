@@ -64,20 +64,6 @@ fn levels_of<L: Levelled>(
     aggregator.levels(alloc, clauses, &aways, &[2, 1])
 }
 
-fn yes(var: u32) -> Lit {
-    Lit {
-        var,
-        positive: true,
-    }
-}
-
-fn no(var: u32) -> Lit {
-    Lit {
-        var,
-        positive: false,
-    }
-}
-
 // Once the total of the first counter and the second, with outputs 5 to 8, and then that of the first and those.
 #[test]
 fn the_level_of_the_sum_has_six_outputs(rt: HostRuntime) -> Result<(), Fail> {
@@ -87,7 +73,10 @@ fn the_level_of_the_sum_has_six_outputs(rt: HostRuntime) -> Result<(), Fail> {
     assert_eq!(rt; levels[0].outputs(), [9, 10, 11, 12, 13, 14].as_slice());
     assert_eq!(rt; clauses.vars(), 14);
     assert_eq!(rt; clauses.len(), 44);
-    assert_eq!(rt; clauses.clause(0), [yes(1), yes(3), no(5)].as_slice());
+    assert_eq!(rt;
+        clauses.clause(0),
+        [Lit::positive(1), Lit::positive(3), Lit::negative(5)].as_slice()
+    );
     Ok(())
 }
 
@@ -100,12 +89,30 @@ fn the_level_of_the_maximum_has_two_outputs(rt: HostRuntime) -> Result<(), Fail>
     assert_eq!(rt; levels[0].outputs(), [5, 6].as_slice());
     assert_eq!(rt; clauses.vars(), 6);
     assert_eq!(rt; clauses.len(), 6);
-    assert_eq!(rt; clauses.clause(0), [no(1), yes(5)].as_slice());
-    assert_eq!(rt; clauses.clause(1), [no(3), yes(5)].as_slice());
-    assert_eq!(rt; clauses.clause(2), [yes(1), yes(3), no(5)].as_slice());
-    assert_eq!(rt; clauses.clause(3), [no(2), yes(6)].as_slice());
-    assert_eq!(rt; clauses.clause(4), [no(4), yes(6)].as_slice());
-    assert_eq!(rt; clauses.clause(5), [yes(2), yes(4), no(6)].as_slice());
+    assert_eq!(rt;
+        clauses.clause(0),
+        [Lit::negative(1), Lit::positive(5)].as_slice()
+    );
+    assert_eq!(rt;
+        clauses.clause(1),
+        [Lit::negative(3), Lit::positive(5)].as_slice()
+    );
+    assert_eq!(rt;
+        clauses.clause(2),
+        [Lit::positive(1), Lit::positive(3), Lit::negative(5)].as_slice()
+    );
+    assert_eq!(rt;
+        clauses.clause(3),
+        [Lit::negative(2), Lit::positive(6)].as_slice()
+    );
+    assert_eq!(rt;
+        clauses.clause(4),
+        [Lit::negative(4), Lit::positive(6)].as_slice()
+    );
+    assert_eq!(rt;
+        clauses.clause(5),
+        [Lit::positive(2), Lit::positive(4), Lit::negative(6)].as_slice()
+    );
     Ok(())
 }
 
@@ -119,7 +126,13 @@ fn leximax_has_two_levels_of_three_outputs(rt: HostRuntime) -> Result<(), Fail> 
     assert_eq!(rt; levels[1].outputs(), [12, 13, 14].as_slice());
     assert_eq!(rt; clauses.vars(), 14);
     assert_eq!(rt; clauses.len(), 32);
-    assert_eq!(rt; clauses.clause(0), [yes(2), yes(4), no(5)].as_slice());
-    assert_eq!(rt; clauses.clause(16), [yes(1), yes(3), no(10)].as_slice());
+    assert_eq!(rt;
+        clauses.clause(0),
+        [Lit::positive(2), Lit::positive(4), Lit::negative(5)].as_slice()
+    );
+    assert_eq!(rt;
+        clauses.clause(16),
+        [Lit::positive(1), Lit::positive(3), Lit::negative(10)].as_slice()
+    );
     Ok(())
 }

@@ -9,13 +9,14 @@ use Rattle.std.proofs.lemmas.Bool.Decides.{nat_tests}
 use Rattle.formulas.specs.Names.{is_name, is_plain_name, is_word_byte}
 use Rattle.formulas.specs.declared.formula.Formula.{Formula}
 use Rattle.formulas.proofs.Equations.{fold_top, fold_bottom, fold_atom, fold_not, fold_and, fold_or, fold_implies, fold_iff, formula_induction}
+use Rattle.formulas.specs.Limits.{times_limit}
 use Rattle.formula_text.specs.CanonicalText.{formula_text, joined_text, name_of, text_step}
 use Rattle.merge_model.specs.declared.agent.Agent.{Agent}
 use Rattle.merge_model.specs.declared.problem.Problem.{Problem}
 use Rattle.problem_lines.specs.Lines.{content_of, lines_of, with_byte}
 use Rattle.profile_text.specs.ProblemText.{agent_line, ask_line, atoms_line, constraint_line, lines_text, problem_lines, problem_text, spaced_names, times_text}
 use Rattle.profile_text.proofs.NameLists.{name_of_item, same_default}
-use Rattle.canonical_lines.proofs.LineForms.{plain, reads_well, up_to_32, well_at}
+use Rattle.canonical_lines.proofs.LineForms.{plain, reads_well, all_times, well_at}
 
 -- a byte is not the mark
 abbrev pub other : ℕ → ℕ → Bool
@@ -94,13 +95,13 @@ module _ (test : ℕ → Bool) (fine : Passes test) where
   spaced_pass (name ∷ names) h =
       joined test (codes " " ++ name) (spaced_names names) (joined test (codes " ") name fine.blank (name_pass name (grind arith))) (spaced_pass names (grind arith))
 
-  times_pass : (times : ℕ) (t : Bool) → 1 ≤ times → times ≤ 32 → passes test (if t then [] else codes " times " ++ decimal times) ≡ true
+  times_pass : (times : ℕ) (t : Bool) → 1 ≤ times → times ≤ times_limit → passes test (if t then [] else codes " times " ++ decimal times) ≡ true
   times_pass times true some few = refl
   times_pass times false some few =
-      let well : reads_well times ≡ true = well_at 32 times up_to_32 some few in
+      let well : reads_well times ≡ true = well_at times_limit times all_times some few in
       joined test (codes " times ") (decimal times) fine.times (word_pass (decimal times) (grind (arith, well)))
 
-  agent_pass : (names : List (List ℕ)) (agent : Agent) → list_all is_name names ≡ true → is_name agent.name ≡ true → 1 ≤ agent.times → agent.times ≤ 32 → passes test (agent_line names agent) ≡ true
+  agent_pass : (names : List (List ℕ)) (agent : Agent) → list_all is_name names ≡ true → is_name agent.name ≡ true → 1 ≤ agent.times → agent.times ≤ times_limit → passes test (agent_line names agent) ≡ true
   agent_pass names agent legal named some few =
       joined test (codes "agent " ++ agent.name ++ times_text agent.times ++ codes " : ") (formula_text names agent.base)
       (joined test (codes "agent " ++ agent.name ++ times_text agent.times) (codes " : ")

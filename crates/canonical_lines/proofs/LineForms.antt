@@ -5,6 +5,7 @@ use Rattle.std.specs.Fmt.{digits}
 use Rattle.std.specs.List.{list_all}
 use Rattle.std.proofs.lemmas.Bool.Decides.{nat_tests}
 use Rattle.formulas.specs.Names.{is_name, is_plain_name, is_word_byte, are_names}
+use Rattle.formulas.specs.Limits.{times_limit}
 use Rattle.line_tokens.specs.Bytes.{starts_word}
 use Rattle.line_tokens.specs.Lexemes.{word, lexemes_of}
 use Rattle.line_tokens.proofs.Words.{if_true}
@@ -72,7 +73,7 @@ constraint_form_of text = ap form_of (word_blank (codes "constraint") text (head
 pub ask_form_of : (text : List ℕ) → form_of (lexemes_of (codes "ask " ++ text)) ≡ query (lexemes_of text)
 ask_form_of text = ap form_of (word_blank (codes "ask") text (head_word 97 (codes "sk") refl))
 
--- the numerals from 1 to 32 are read as their numbers
+-- the numerals from 1 to the greatest times are read as their numbers
 abbrev pub reads_well : ℕ → Bool
 reads_well n = is_numeral (decimal n) && value_after 0 (decimal n) == n && list_all is_word_byte (decimal n)
 
@@ -95,9 +96,9 @@ well_at (suc m) n h some few =
     (λ high. ap reads_well high ∙ (let last : reads_well (suc m) ≡ true = grind arith in last))
     (below_or_at n m few)
 
-pub up_to_32 : all_read_well 32 ≡ true
+pub all_times : all_read_well times_limit ≡ true
 unfolding digits
-up_to_32 = refl
+all_times = refl
 
 numeral_word : (w : List ℕ) → is_numeral w ≡ true → list_all is_word_byte w ≡ true → IsWord w
 numeral_word [] h all = absurd (grind arith)
@@ -121,7 +122,7 @@ times_form_of name numeral text legal digits all =
     ∙ if_true (is_plain_name name) _ _ (plain name legal)
     ∙ if_true (is_numeral numeral) _ _ digits
 
-agent_at : (names : List (List ℕ)) (agent : Agent) (t : Bool) → (agent.times == 1) ≡ t → is_name agent.name ≡ true → 1 ≤ agent.times → agent.times ≤ 32 →
+agent_at : (names : List (List ℕ)) (agent : Agent) (t : Bool) → (agent.times == 1) ≡ t → is_name agent.name ≡ true → 1 ≤ agent.times → agent.times ≤ times_limit →
     form_of (lexemes_of (codes "agent " ++ agent.name ++ (if t then [] else codes " times " ++ decimal agent.times) ++ codes " : " ++ formula_text names agent.base))
     ≡ belief agent.name agent.times (lexemes_of (formula_text names agent.base))
 agent_at names agent true e legal some few =
@@ -133,7 +134,7 @@ agent_at names agent true e legal some few =
 agent_at names agent false e legal some few =
     let text = formula_text names agent.base in
     let numeral = decimal agent.times in
-    let well : reads_well agent.times ≡ true = well_at 32 agent.times up_to_32 some few in
+    let well : reads_well agent.times ≡ true = well_at times_limit agent.times all_times some few in
     let digits : is_numeral (decimal agent.times) ≡ true = grind (arith, well) in
     let all : list_all is_word_byte (decimal agent.times) ≡ true = grind (arith, well) in
     let value : value_after 0 (decimal agent.times) ≡ agent.times = grind (arith, nat_tests, well) in
@@ -144,6 +145,6 @@ agent_at names agent false e legal some few =
     ∙ times_form_of agent.name numeral text legal digits all
     ∙ ap (λ n. belief agent.name n (lexemes_of text)) value
 
-pub agent_form_of : (names : List (List ℕ)) (agent : Agent) → is_name agent.name ≡ true → 1 ≤ agent.times → agent.times ≤ 32 →
+pub agent_form_of : (names : List (List ℕ)) (agent : Agent) → is_name agent.name ≡ true → 1 ≤ agent.times → agent.times ≤ times_limit →
     form_of (lexemes_of (agent_line names agent)) ≡ belief agent.name agent.times (lexemes_of (formula_text names agent.base))
 agent_form_of names agent legal some few = agent_at names agent (agent.times == 1) refl legal some few

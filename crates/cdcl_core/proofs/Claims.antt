@@ -4,6 +4,7 @@ use Rattle.std.specs.Prelude.{slice_get}
 use Rattle.std.proofs.lemmas.Bool.{cases_Bool}
 use Rattle.clause_store.specs.declared.lit.Lit.{Lit}
 use Rattle.clause_store.specs.Lits.{negated, same_lit, without, resolvent, Ascends, InRange, has}
+use Rattle.clause_store.proofs.Lits.{negated-twice}
 use Rattle.watch_lists.specs.declared.entry.Entry.{Entry}
 use Rattle.watch_lists.specs.Trace.{Attached, IsStacked, StandIn, oldest}
 use Rattle.derivation_log.specs.declared.step.Link.{Link}
@@ -28,9 +29,6 @@ pub record IsClaiming (known : List (List Lit)) (watched : List Attached) (vars 
   pub barred : AllByRecursion (IsBarred assumptions rest) clause
   pub justified : IsJustified watched rest
   pub lesson : IsLesson known vars first chain clause
-
-negated-twice : (l : Lit) → negated (negated l) ≡ l
-negated-twice l = search rules
 
 barred_before : (as' : List Lit) (es : List Entry) (e : Entry) (p l : Lit) → p ≡ negated e.lit → IsBarred as' (e ∷ es) l → same_lit l p ≡ false → IsBarred as' es l
 barred_before as' es e p l q b t = elim b [ inl h ↦ inl h | inr f ↦ inr (false_before es e l f (subst (λ (y : Lit). same_lit l y ≡ false) q t)) ]

@@ -19,17 +19,16 @@ use Rattle.solver_laws.proofs.Steps.{drop_false}
 use Rattle.solver_laws.proofs.Turns.{all_map}
 use Rattle.watch_lists.proofs.Traces.{entry_of-var}
 use Rattle.watch_lists.proofs.Scans.{contains_all}
-use Rattle.clause_store.specs.Truth.{clause_true, lit_true, values_of, Satisfies}
+use Rattle.clause_store.specs.Truth.{clause_true, lit_true, values_of, AreTrue}
 use Rattle.clause_store.proofs.Truths.{each_satisfies}
 use Rattle.clause_store.proofs.Each.{each_index, each_of_index}
+use Rattle.clause_store.proofs.Numbered.{some_clause}
+use Rattle.clause_store.proofs.Lits.{negated-twice}
 use Rattle.std.proofs.Math.ListN.{set, length-set}
 use Rattle.std.proofs.Common.{get_or-set_other, get_or-set_same}
 use Rattle.cdcl_core.specs.Choices.{HasValues}
 use Rattle.cdcl_core.specs.Replies.{AllLearned, IsGrown}
 use Rattle.cdcl_core.specs.Turns.{IsKept, IsLearned}
-
-some_inj : (c d : List Lit) → (let x : Option (List Lit) = Some c in let y : Option (List Lit) = Some d in x ≡ y) → c ≡ d
-some_inj c d h = cc
 
 -- a falsified clause
 pub falsified_within : (known : List (List Lit)) (w : List Attached) (es : List Entry) (n : ℕ) → StandIn known w → IsFalsified w es n → n < length known
@@ -86,7 +85,7 @@ all_front P [] ys h k d lt = absurd (omega arith)
 all_front P (x ∷ xs) ys h zero d lt = h 0 d (omega arith)
 all_front P (x ∷ xs) ys h (suc k) d lt = all_front P xs ys (λ j e l. h (suc j) e (omega arith)) k d (omega arith)
 
-pub main_found : (t : Trace) (values : List Bool) (main learned : List (List Lit)) (w : List Attached) → HasValues t values → ((v : ℕ) → 1 ≤ v → v ≤ t.vars → value_of t.entries (record { var = v; positive = false }) ≢ None) → AreInRange t.vars main → map (λ (a : Attached). a.clause) w ≡ main ++ learned → IsComplete w t.entries → Satisfies (values_of values) main
+pub main_found : (t : Trace) (values : List Bool) (main learned : List (List Lit)) (w : List Attached) → HasValues t values → ((v : ℕ) → 1 ≤ v → v ≤ t.vars → value_of t.entries (record { var = v; positive = false }) ≢ None) → AreInRange t.vars main → map (λ (a : Attached). a.clause) w ≡ main ++ learned → IsComplete w t.entries → AreTrue main (values_of values)
 main_found t values main learned w h full r e c =
     each_satisfies (values_of values) main (each_of_index (λ (x : List Lit). clause_true (values_of values) x ≡ true) main (λ k d lt.
     clause_found t values (get_or main k d) h full (each_index (InRange t.vars) main r k d lt) (all_front (λ (x : List Lit). 2 ≤ room_of t.entries x) main learned (subst (All (λ (x : List Lit). 2 ≤ room_of t.entries x)) e (all_map (λ (x : List Lit). 2 ≤ room_of t.entries x) w c)) k d lt)))
@@ -182,12 +181,9 @@ each_back P R p (l ∷ ls) f r e =
 
 pub contrary_barred : (asked : List Lit) (es : List Entry) (l p : Lit) (c : List Lit) → p ≡ negated l → Contains asked l → AllByRecursion (IsFalseIn es) (without p c) → AllByRecursion (IsBarred asked es) c
 contrary_barred asked es l p c q h e =
-    let n : negated p ≡ l = ap negated q ∙ twice l in
+    let n : negated p ≡ l = ap negated q ∙ negated-twice l in
     let r : IsBarred asked es p = inl (subst (λ (x : Lit). has x asked ≡ true) (sym n) (contains_has asked l h)) in
     each_back (IsFalseIn es) (IsBarred asked es) p c (λ x f. inr f) r e
-  where
-    twice : (l : Lit) → negated (negated l) ≡ l
-    twice l = search rules
 
 -- a decision against an assumption would be an assumption on the same variable
 has_contains : (l : Lit) (asked : List Lit) → has l asked ≡ true → Contains asked l

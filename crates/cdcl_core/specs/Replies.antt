@@ -2,7 +2,7 @@
 use Rattle.std.specs.Prelude.{◌≡◌, ℕ, ◌<◌, Bool, true, false, List, [], ◌∷◌, ◌++◌, length}
 use Rattle.std.specs.List.{AllByRecursion}
 use Rattle.clause_store.specs.declared.lit.Lit.{Lit}
-use Rattle.clause_store.specs.Truth.{lit_true, values_of, Satisfies}
+use Rattle.clause_store.specs.Truth.{lit_true, values_of, AreTrue}
 use Rattle.derivation_log.specs.declared.step.Step.{Step}
 use Rattle.derivation_log.specs.Logs.{Log, known_of, is_learned}
 use Rattle.log_checker.specs.Refutes.{Refutes}
@@ -33,7 +33,7 @@ IsClaimed old new asked = (s : Step) × (is_learned s.kind ≡ false) × Refutes
 -- the clauses and the assumptions are true under these values of the variables
 pub record IsSolution (main : List (List Lit)) (vars : ℕ) (asked : List Lit) (values : List Bool) : Type 0 where
   pub size : length values ≡ vars
-  pub clauses : Satisfies (values_of values) main
+  pub clauses : AreTrue main (values_of values)
   pub assumptions : AllByRecursion (λ l. lit_true (values_of values) l ≡ true) asked
 
 -- the budget is a number of learned steps: an answer comes before the last of them, giving up with it
@@ -48,7 +48,7 @@ IsAnswered old new asked budget (GaveUp number) =
 -- where the reply is a refutation, no assignment makes the clauses and the assumptions true
 abbrev pub IsJust : List (List Lit) → List Lit → Reply → Type 0
 IsJust main asked (Found values) = Unit {0}
-IsJust main asked (Refuted number) = (a : ℕ → Bool) → Satisfies a main → AllByRecursion (λ l. lit_true a l ≡ true) asked → ⊥
+IsJust main asked (Refuted number) = (a : ℕ → Bool) → AreTrue main a → AllByRecursion (λ l. lit_true a l ≡ true) asked → ⊥
 IsJust main asked (GaveUp number) = Unit {0}
 
 -- the reply is an answer, and not that the budget was spent

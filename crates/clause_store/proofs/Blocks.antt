@@ -1,12 +1,12 @@
 -- Blocks of clauses that define variables, one after another.
-use Rattle.std.proofs.Common.{◌≡◌, ℕ, ◌+◌, ◌<◌, ◌≤◌, Bool, List, ◌++◌, refl, sym, ap, ◌∙◌, inl, inr, arith}
+use Rattle.std.proofs.Common.{◌≡◌, ℕ, ◌+◌, ◌<◌, ◌≤◌, Bool, List, [], ◌++◌, refl, sym, ap, ◌∙◌, inl, inr, arith}
 use Rattle.std.specs.Prelude.{nat_le, if◌then◌else◌}
 use Rattle.std.proofs.lemmas.Bool.Decides.{leb_tells, nat_tests}
 use Rattle.clause_store.specs.declared.lit.Lit.{Lit}
 use Rattle.clause_store.specs.Lits.{AreInRange}
-use Rattle.clause_store.specs.Truth.{all_true, Agree}
-use Rattle.clause_store.specs.Extends.{Extends, Are, Always, AreDefined}
-use Rattle.clause_store.proofs.Truths.{and_left, and_right, and_both, all_agree, all_true-append, agree_then}
+use Rattle.clause_store.specs.Truth.{AreTrue, all_true, Agree}
+use Rattle.clause_store.specs.Extends.{Extends, Always, AreDefined}
+use Rattle.clause_store.proofs.Truths.{all_agree, agree_then, both_true, true_both}
 
 -- no variable, no rule
 pub nothing : (P : (ℕ → Bool) → Type 0) (v : ℕ) → ((a b : ℕ → Bool) → Agree v a b → P a → P b) → Extends P Always v v
@@ -40,6 +40,10 @@ weaker P Q R S v w e given within up to from = record {
   one = λ b c p h r s. e.one b c (up b p) h (to b p r) (to c (given b c h p) s);
 }
 
+-- no clause, no variable
+pub no_clause : (P : (ℕ → Bool) → Type 0) (v : ℕ) → ((a b : ℕ → Bool) → Agree v a b → P a → P b) → Extends P (AreTrue []) v v
+no_clause P v local = weaker P P (AreTrue []) Always v v (nothing P v local) local (λ a b h r. refl) (λ b p. p) (λ b p r. tt) (λ b p r. refl)
+
 -- the old values up to v, and new ones above
 abbrev pub onto : ℕ → (ℕ → Bool) → (ℕ → Bool) → ℕ → Bool
 onto v a f k = if nat_le k v then a k else f k
@@ -62,21 +66,19 @@ defined P v w f le local same = record {
 }
 
 -- clauses that say what the new variables are
-pub block : (P : (ℕ → Bool) → Type 0) (v w : ℕ) (cs : List (List Lit)) (f : (ℕ → Bool) → ℕ → Bool) → v ≤ w → ((a b : ℕ → Bool) → Agree v a b → P a → P b) → ((a b : ℕ → Bool) → Agree v a b → (k : ℕ) → f a k ≡ f b k) → AreInRange w cs → ((b : ℕ → Bool) → P b → Are cs b → AreDefined v w f b) → ((b : ℕ → Bool) → P b → AreDefined v w f b → Are cs b) → Extends P (Are cs) v w
+pub block : (P : (ℕ → Bool) → Type 0) (v w : ℕ) (cs : List (List Lit)) (f : (ℕ → Bool) → ℕ → Bool) → v ≤ w → ((a b : ℕ → Bool) → Agree v a b → P a → P b) → ((a b : ℕ → Bool) → Agree v a b → (k : ℕ) → f a k ≡ f b k) → AreInRange w cs → ((b : ℕ → Bool) → P b → AreTrue cs b → AreDefined v w f b) → ((b : ℕ → Bool) → P b → AreDefined v w f b → AreTrue cs b) → Extends P (AreTrue cs) v w
 block P v w cs f le given same within to from =
-    weaker P P (Are cs) (AreDefined v w f) v w (defined P v w f le given same) given (λ a b h r. sym (all_agree w a b cs h within) ∙ r) (λ b p. p) to from
+    weaker P P (AreTrue cs) (AreDefined v w f) v w (defined P v w f le given same) given (λ a b h r. sym (all_agree w a b cs h within) ∙ r) (λ b p. p) to from
 
 -- one variable
-pub single : (P : (ℕ → Bool) → Type 0) (v : ℕ) (cs : List (List Lit)) (f : (ℕ → Bool) → Bool) → ((a b : ℕ → Bool) → Agree v a b → P a → P b) → ((a b : ℕ → Bool) → Agree v a b → f a ≡ f b) → AreInRange (v + 1) cs → ((b : ℕ → Bool) → P b → Are cs b → b (v + 1) ≡ f b) → ((b : ℕ → Bool) → P b → b (v + 1) ≡ f b → Are cs b) → Extends P (Are cs) v (v + 1)
+pub single : (P : (ℕ → Bool) → Type 0) (v : ℕ) (cs : List (List Lit)) (f : (ℕ → Bool) → Bool) → ((a b : ℕ → Bool) → Agree v a b → P a → P b) → ((a b : ℕ → Bool) → Agree v a b → f a ≡ f b) → AreInRange (v + 1) cs → ((b : ℕ → Bool) → P b → AreTrue cs b → b (v + 1) ≡ f b) → ((b : ℕ → Bool) → P b → b (v + 1) ≡ f b → AreTrue cs b) → Extends P (AreTrue cs) v (v + 1)
 single P v cs f given same within to from =
     block P v (v + 1) cs (λ a k. f a) (omega arith) given (λ a b h k. same a b h) within
     (λ b p r k lo hi. let e : k ≡ v + 1 = omega arith in ap b e ∙ to b p r)
     (λ b p d. from b p (d (v + 1) (omega arith) (omega arith)))
 
 -- two blocks of clauses
-pub next_are : (P Q : (ℕ → Bool) → Type 0) (u v w : ℕ) (cs ds : List (List Lit)) → Extends P (Are cs) u v → Extends Q (Are ds) v w → ((b : ℕ → Bool) → P b → Are cs b → Q b) → Extends P (Are (cs ++ ds)) u w
+pub next_are : (P Q : (ℕ → Bool) → Type 0) (u v w : ℕ) (cs ds : List (List Lit)) → Extends P (AreTrue cs) u v → Extends Q (AreTrue ds) v w → ((b : ℕ → Bool) → P b → AreTrue cs b → Q b) → Extends P (AreTrue (cs ++ ds)) u w
 next_are P Q u v w cs ds first second leads =
-    let both = next P Q (Are cs) (Are ds) u v w first second leads in
-    let to : (b : ℕ → Bool) → Are (cs ++ ds) b → Are cs b × Are ds b = λ b r. let e = sym (all_true-append b cs ds) ∙ r in (and_left (all_true b cs) (all_true b ds) e, and_right (all_true b cs) (all_true b ds) e) in
-    let from : (b : ℕ → Bool) → Are cs b × Are ds b → Are (cs ++ ds) b = λ b r. all_true-append b cs ds ∙ and_both (all_true b cs) (all_true b ds) r.0 r.1 in
-    weaker P P (Are (cs ++ ds)) (λ b. Are cs b × Are ds b) u w both first.given (λ a b h r. from b (both.within a b h (to a r))) (λ b p. p) (λ b p r. to b r) (λ b p r. from b r)
+    let both = next P Q (AreTrue cs) (AreTrue ds) u v w first second leads in
+    weaker P P (AreTrue (cs ++ ds)) (λ b. AreTrue cs b × AreTrue ds b) u w both first.given (λ a b h r. let x = both.within a b h (both_true a cs ds r) in true_both b cs ds x.0 x.1) (λ b p. p) (λ b p r. both_true b cs ds r) (λ b p r. true_both b cs ds r.0 r.1)

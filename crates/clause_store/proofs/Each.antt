@@ -24,3 +24,6 @@ each_index {X = X} P (x ∷ xs) h = λ k. elim k as (λ j. (d : X) → j < lengt
 pub each_of_index : {X : Type 0} (P : X → Type 0) (xs : List X) → All P xs → AllByRecursion P xs
 each_of_index P [] h = tt
 each_of_index P (x ∷ xs) h = (h 0 x (omega arith), each_of_index P xs (λ k d lt. h (suc k) d (omega arith)))
+
+pub each_place : {X : Type 0} (P : X → Type 0) (xs : List X) (k : ℕ) (d : X) → AllByRecursion P xs → k < length xs → P (slice_index_or xs k d)
+each_place P xs k d h lt = each_index P xs h k d lt

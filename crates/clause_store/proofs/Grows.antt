@@ -1,5 +1,5 @@
 -- What a refused call leaves, from what its parts leave.
-use Rattle.std.proofs.Common.{◌≡◌, ◌≤◌, List, [], ◌∷◌, ◌++◌, refl, sym, ap, ◌∙◌, arith, append_assoc}
+use Rattle.std.proofs.Common.{◌≡◌, ◌≤◌, List, [], ◌∷◌, ◌++◌, refl, sym, ap, ◌∙◌, subst, arith, append_assoc}
 use Rattle.std.specs.Prelude.{map}
 use Rattle.std.proofs.lemmas.List.{append-nil}
 use Rattle.clause_store.specs.declared.lit.Lit.{Lit}
@@ -58,3 +58,45 @@ grew_next old mid new first rest e le g = record {
   part = append_assoc (map sorted_clause first) g.added g.missing ∙ ap (λ x. map sorted_clause first ++ x) g.part ∙ sym (stored-append first rest);
   more = let m = g.more in omega arith;
 }
+
+-- variables alone
+pub grew_vars : (old mid new : Clauses) (due : List (List Lit)) → mid.list ≡ old.list → old.vars ≤ mid.vars → Grew mid new due → Grew old new due
+grew_vars old mid new due e le g = record {
+  added = g.added;
+  missing = g.missing;
+  kept = g.kept ∙ ap (λ x. x ++ g.added) e;
+  part = g.part;
+  more = let m = g.more in omega arith;
+}
+
+-- all that is due
+pub grew_whole : (old new : Clauses) (due : List (List Lit)) → new.list ≡ old.list ++ map sorted_clause due → old.vars ≤ new.vars → Grew old new due
+grew_whole old new due e le = record { added = map sorted_clause due; missing = []; kept = e; part = append-nil (map sorted_clause due); more = le }
+
+-- a loop that appends
+
+-- the list has grown by the first of the clauses that are due in all, up to the rest
+pub record IsDueStill (old now : List (List Lit)) (rest all : List (List Lit)) : Type 0 where
+  pub first : List (List Lit)
+  pub list : now ≡ old ++ map sorted_clause first
+  pub part : first ++ rest ≡ all
+
+pub due_all : (old : List (List Lit)) (all : List (List Lit)) → IsDueStill old old all all
+due_all old all = record { first = []; list = sym (append-nil old); part = refl }
+
+-- a refusal in what is due next
+pub grew_rest : (old now new : Clauses) (next rest all : List (List Lit)) → IsDueStill old.list now.list (next ++ rest) all → old.vars ≤ now.vars → Grew now new next → Grew old new all
+grew_rest old now new next rest all d le g =
+    subst (λ cs. Grew old new cs) d.part (grew_next old now new d.first (next ++ rest) d.list le (grew_front now new next rest g))
+
+-- what was due next is there
+pub list_rest : (old now new : List (List Lit)) (next rest all : List (List Lit)) → IsDueStill old now (next ++ rest) all → new ≡ now ++ map sorted_clause next → IsDueStill old new rest all
+list_rest old now new next rest all d f = record {
+  first = d.first ++ next;
+  list = f ∙ ap (λ x. x ++ map sorted_clause next) d.list ∙ append_assoc old (map sorted_clause d.first) (map sorted_clause next) ∙ ap (λ x. old ++ x) (sym (stored-append d.first next));
+  part = append_assoc d.first next rest ∙ d.part;
+}
+
+-- nothing is due any more
+pub list_end : (old now all : List (List Lit)) → IsDueStill old now [] all → now ≡ old ++ map sorted_clause all
+list_end old now all d = d.list ∙ ap (λ x. old ++ map sorted_clause x) (sym (append-nil d.first) ∙ d.part)

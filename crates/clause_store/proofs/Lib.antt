@@ -1,5 +1,8 @@
 pub mod Each
+pub mod Outcomes
 pub mod Lits
+pub mod Fresh
+pub mod Once
 pub mod Searches
 pub mod Sorts
 pub mod Merges

@@ -1,5 +1,5 @@
 -- Lemmas on literals.
-use Rattle.std.proofs.Common.{◌≡◌, ◌≢◌, ℕ, ◌<◌, Bool, true, false, List, [], ◌∷◌, ◌++◌, refl, ap, sym, ◌∙◌, rules, arith, cond, inl, inr, append_assoc}
+use Rattle.std.proofs.Common.{◌≡◌, ◌≢◌, ℕ, ◌<◌, Bool, true, false, not, List, [], ◌∷◌, ◌++◌, refl, ap, sym, ◌∙◌, rules, arith, cond, inl, inr, append_assoc}
 use Rattle.std.proofs.lemmas.Bool.{cases_lt, cases_eq}
 use Rattle.std.specs.Prelude.{nat_lt}
 use Rattle.clause_store.specs.declared.lit.Lit.{Lit}
@@ -17,6 +17,9 @@ rank_lit1 v w false true e = absurd (omega arith)
 -- literals of one rank are one
 pub rank_lit : (a b : Lit) → rank_of a ≡ rank_of b → a ≡ b
 rank_lit a b e = rank_lit1 a.var b.var a.positive b.positive e
+
+pub negated-twice : (l : Lit) → negated (negated l) ≡ l
+negated-twice l = lit_ext (negated (negated l)) l refl (elim l.positive as (λ b. not (not b) ≡ b) [ true ↦ refl | false ↦ refl ])
 
 -- below the head of a list is below the list
 pub IsBelow-trans : (x y : Lit) (ys : List Lit) → rank_of x < rank_of y → IsBelow y ys → IsBelow x ys

@@ -5,7 +5,7 @@ use Rattle.std.specs.List.{AllByRecursion}
 use Rattle.std.proofs.lemmas.Bool.{cases_Bool}
 use Rattle.clause_store.specs.declared.lit.Lit.{Lit}
 use Rattle.clause_store.specs.Lits.{rank_of, negated, same_lit, IsWithin, InRange, AreInRange, has, without, with_lit, joined, resolvent, sorted_onto, sorted_clause}
-use Rattle.clause_store.specs.Truth.{lit_true, clause_true, all_true, Satisfies, Agree}
+use Rattle.clause_store.specs.Truth.{lit_true, clause_true, all_true, AreTrue, Agree}
 use Rattle.clause_store.proofs.Lits.{rank_lit}
 
 pub and_left : (x y : Bool) → (x && y) ≡ true → x ≡ true
@@ -23,6 +23,9 @@ and_both false y h k = cc
 pub and_assoc : (x y z : Bool) → (x && (y && z)) ≡ ((x && y) && z)
 and_assoc true y z = refl
 and_assoc false y z = refl
+
+pub not_both : (x : Bool) → x ≡ true → x ≡ false → ⊥
+not_both x h k = cc
 
 pub or_left : (x y : Bool) → x ≡ true → (x || y) ≡ true
 or_left x y h = grind arith
@@ -78,10 +81,6 @@ pub all_within_more : (v w : ℕ) (cs : List (List Lit)) → v ≤ w → AreInRa
 all_within_more v w [] le h = tt
 all_within_more v w (c ∷ cs) le h = (within_more v w c le h.0, all_within_more v w cs le h.1)
 
-pub AreInRange-append : (v : ℕ) (cs ds : List (List Lit)) → AreInRange v cs → AreInRange v ds → AreInRange v (cs ++ ds)
-AreInRange-append v [] ds h k = k
-AreInRange-append v (c ∷ cs) ds h k = (h.0, AreInRange-append v cs ds h.1 k)
-
 -- lists of clauses
 
 pub all_true-append : (a : ℕ → Bool) (cs ds : List (List Lit)) → all_true a (cs ++ ds) ≡ (all_true a cs && all_true a ds)
@@ -92,18 +91,25 @@ pub clause_true-append : (a : ℕ → Bool) (ls ms : List Lit) → clause_true a
 clause_true-append a [] ms = refl
 clause_true-append a (l ∷ ls) ms = ap (λ x. lit_true a l || x) (clause_true-append a ls ms) ∙ or_assoc (lit_true a l) (clause_true a ls) (clause_true a ms)
 
+-- clauses one after another are true where both parts are
+pub both_true : (a : ℕ → Bool) (cs ds : List (List Lit)) → AreTrue (cs ++ ds) a → AreTrue cs a × AreTrue ds a
+both_true a cs ds h = let e = sym (all_true-append a cs ds) ∙ h in (and_left (all_true a cs) (all_true a ds) e, and_right (all_true a cs) (all_true a ds) e)
+
+pub true_both : (a : ℕ → Bool) (cs ds : List (List Lit)) → AreTrue cs a → AreTrue ds a → AreTrue (cs ++ ds) a
+true_both a cs ds h k = all_true-append a cs ds ∙ and_both (all_true a cs) (all_true a ds) h k
+
 -- a clause of a list that is satisfied is true
-pub known_true : (a : ℕ → Bool) (cs : List (List Lit)) (k : ℕ) (c : List Lit) → Satisfies a cs → slice_get cs k ≡ Some c → clause_true a c ≡ true
+pub known_true : (a : ℕ → Bool) (cs : List (List Lit)) (k : ℕ) (c : List Lit) → AreTrue cs a → slice_get cs k ≡ Some c → clause_true a c ≡ true
 known_true a [] k c s g = absurd (cc)
 known_true a (d ∷ ds) zero c s g = let e : d ≡ c = cc in subst (λ (x : List Lit). clause_true a x ≡ true) e (and_left (clause_true a d) (all_true a ds) s)
 known_true a (d ∷ ds) (suc k) c s g = known_true a ds k c (and_right (clause_true a d) (all_true a ds) s) g
 
 -- the same, as a fact of each clause
-pub satisfies_each : (a : ℕ → Bool) (cs : List (List Lit)) → Satisfies a cs → AllByRecursion (λ c. clause_true a c ≡ true) cs
+pub satisfies_each : (a : ℕ → Bool) (cs : List (List Lit)) → AreTrue cs a → AllByRecursion (λ c. clause_true a c ≡ true) cs
 satisfies_each a [] s = tt
 satisfies_each a (c ∷ cs) s = (and_left (clause_true a c) (all_true a cs) s, satisfies_each a cs (and_right (clause_true a c) (all_true a cs) s))
 
-pub each_satisfies : (a : ℕ → Bool) (cs : List (List Lit)) → AllByRecursion (λ c. clause_true a c ≡ true) cs → Satisfies a cs
+pub each_satisfies : (a : ℕ → Bool) (cs : List (List Lit)) → AllByRecursion (λ c. clause_true a c ≡ true) cs → AreTrue cs a
 each_satisfies a [] h = refl
 each_satisfies a (c ∷ cs) h = and_both (clause_true a c) (all_true a cs) h.0 (each_satisfies a cs h.1)
 

@@ -1,7 +1,6 @@
 -- Clauses that define variables: unique extension.
-use Rattle.std.specs.Prelude.{◌≡◌, ℕ, ◌<◌, ◌≤◌, Bool, List}
-use Rattle.clause_store.specs.declared.lit.Lit.{Lit}
-use Rattle.clause_store.specs.Truth.{Agree, Satisfies}
+use Rattle.std.specs.Prelude.{◌≡◌, ℕ, ◌<◌, ◌≤◌, Bool}
+use Rattle.clause_store.specs.Truth.{Agree}
 
 -- each assignment of the variables up to v under which the premise holds extends in exactly one way
 -- to the variables up to w so that the rule holds
@@ -11,10 +10,6 @@ pub record Extends (premise rule : (ℕ → Bool) → Type 0) (v w : ℕ) : Type
   pub within : (a b : ℕ → Bool) → Agree w a b → rule a → rule b
   pub some : (a : ℕ → Bool) → premise a → (b : ℕ → Bool) × Agree v a b × rule b
   pub one : (b c : ℕ → Bool) → premise b → Agree v b c → rule b → rule c → Agree w b c
-
--- the clauses are true
-abbrev pub Are : List (List Lit) → (ℕ → Bool) → Type 0
-Are cs a = Satisfies a cs
 
 -- a premise of nothing
 abbrev pub Always : (ℕ → Bool) → Type 0

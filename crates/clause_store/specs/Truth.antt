@@ -2,21 +2,23 @@
 use Rattle.std.specs.Prelude.{◌≡◌, ℕ, ◌-◌, ◌≤◌, Bool, true, false, not, ◌&&◌, ◌||◌, List, [], ◌∷◌, if◌then◌else◌, slice_index_or}
 use Rattle.clause_store.specs.declared.lit.Lit.{Lit}
 
+-- whether the literal is true
 abbrev pub lit_true : (ℕ → Bool) → Lit → Bool
 lit_true a l = if l.positive then a l.var else not (a l.var)
 
--- some literal is true
+-- whether some literal is true
 abbrev pub clause_true : (ℕ → Bool) → List Lit → Bool
 clause_true a [] = false
 clause_true a (l ∷ ls) = lit_true a l || clause_true a ls
 
--- each clause is true
+-- whether each clause is true
 abbrev pub all_true : (ℕ → Bool) → List (List Lit) → Bool
 all_true a [] = true
 all_true a (c ∷ cs) = clause_true a c && all_true a cs
 
-abbrev pub Satisfies : (ℕ → Bool) → List (List Lit) → Type 0
-Satisfies a cs = all_true a cs ≡ true
+-- the clauses are true
+abbrev pub AreTrue : List (List Lit) → (ℕ → Bool) → Type 0
+AreTrue cs a = all_true a cs ≡ true
 
 -- the assignments agree on the variables 1 to v
 abbrev pub Agree : ℕ → (ℕ → Bool) → (ℕ → Bool) → Type 0

@@ -2,6 +2,8 @@
 ghost use Rattle.std.specs.Prelude.{◌≡◌, ◌+◌, ◌*◌, ◌^◌, ◌<◌, ◌≤◌, [], ◌∷◌, ◌++◌, length, slice_get, Some, true, IfOk, OnOk, OnErr};
 ghost use Rattle.clause_store.specs.Lits.{Ascends, InRange, positive_lit, sorted_clause};
 ghost use Rattle.clause_store.specs.Clauses.{cut, Rise, start_at};
+ghost use Rattle.clause_store.specs.Fresh.{fresh_lits, fresh_vars};
+ghost use Rattle.clause_store.specs.Limits.{clause_limit, var_limit};
 
 use crate::clause::Clause;
 use crate::lit::Lit;
@@ -21,12 +23,13 @@ pub struct ClauseList {
 impl Model for ClauseList {
     ghost use Rattle.std.specs.Prelude.{◌≡◌, ◌<◌, ◌≤◌, ◌^◌, length, vec_len};
     ghost use Rattle.clause_store.specs.Clauses.{Clauses, cut, Rise, IsWhole};
+    ghost use Rattle.clause_store.specs.Limits.{var_limit};
 
     ghost Value = { Clauses };
 
     ghost view = { λ a. record { list = cut 0 a.ends.items a.lits.items; vars = a.vars } };
 
-    ghost invariant = { λ a. Rise 0 a.ends.items (length a.lits.items) × (length a.lits.items < 2 ^ 32) × (a.vars ≤ 2 ^ 31) × IsWhole (record { list = cut 0 a.ends.items a.lits.items; vars = a.vars }) };
+    ghost invariant = { λ a. Rise 0 a.ends.items (length a.lits.items) × (length a.lits.items < 2 ^ 32) × (a.vars ≤ var_limit) × IsWhole (record { list = cut 0 a.ends.items a.lits.items; vars = a.vars }) };
 }
 
 impl ClauseList {
@@ -46,7 +49,7 @@ impl ClauseList {
     /// The number of clauses.
     pub fn len(&self) -> u64
         ensures len { result ≡ length self.now.list }
-        ensures small { result < 2 ^ 63 }
+        ensures small { result < clause_limit }
         ensures whole { IsWhole self.now }
     {
         self.ends.len() as u64
@@ -55,22 +58,54 @@ impl ClauseList {
     /// The number of variables.
     pub fn vars(&self) -> u32
         ensures vars { result ≡ self.now.vars }
-        ensures few { result ≤ 2 ^ 31 }
+        ensures few { result ≤ var_limit }
     {
         self.vars
     }
 
     /// The positive literal of a further variable, the next one.
     pub fn fresh(&mut self) -> Lit
-        requires { self.old.vars < 2 ^ 31 }
+        requires { self.old.vars < var_limit }
         ensures lit { result ≡ positive_lit (self.old.vars + 1) }
         ensures after { self.new ≡ record self.old { vars = self.old.vars + 1 } }
     {
         self.vars += 1;
-        Lit {
-            var: self.vars,
-            positive: true,
+        Lit::positive(self.vars)
+    }
+
+    /// So many further variables, the next ones in order. `NoMemory`, for want of memory, leaves the list as it
+    /// was.
+    #[tactic(auto, using(crate::proofs::Fresh::fresh_vars_next))]
+    pub fn fresh_vars(&mut self, count: usize) -> Result<Vec<u32>, NoMemory>
+        requires { self.old.vars + count ≤ var_limit }
+        ensures vars { IfOk result (λ vars. vars.items ≡ fresh_vars self.old.vars count) }
+        ensures ok { OnOk result (self.new ≡ record self.old { vars = self.old.vars + count }) }
+        ensures err { OnErr result (self.new ≡ self.old) }
+    {
+        let mut vars = Vec::with_capacity(*self.lits.allocator(), count)?;
+        let last = self.vars;
+        for i in 0..count {
+            vars.push(last + i as u32 + 1)?;
         }
+        self.vars += count as u32;
+        Ok(vars)
+    }
+
+    /// The positive literals of so many further variables, the next ones in order. `NoMemory`, for want of
+    /// memory, leaves the clauses as they were, and maybe more variables.
+    pub fn fresh_lits(&mut self, count: usize) -> Result<Vec<Lit>, NoMemory>
+        requires { self.old.vars + count ≤ var_limit }
+        ensures lits { IfOk result (λ lits. lits.items ≡ fresh_lits self.old.vars count) }
+        ensures ok { OnOk result (self.new ≡ record self.old { vars = self.old.vars + count }) }
+        ensures list { self.new.list ≡ self.old.list }
+        ensures more { self.old.vars ≤ self.new.vars }
+    {
+        let vars = self.fresh_vars(count)?;
+        let lits = vars
+            .iter()
+            .map(|var| Lit::positive(*var))
+            .collect(*self.lits.allocator())?;
+        Ok(lits)
     }
 
     /// The literals of the clause of a number, from 0.
@@ -88,7 +123,7 @@ impl ClauseList {
     pub fn add(&mut self, lits: &[Lit]) -> Result<u64, NoMemory>
         requires in_range { InRange self.old.vars lits.now }
         ensures number { IfOk result (λ k. k ≡ length self.old.list) }
-        ensures small { IfOk result (λ k. k < 2 ^ 63) }
+        ensures small { IfOk result (λ k. k < clause_limit) }
         ensures ok { OnOk result (self.new ≡ record self.old { list = self.old.list ++ sorted_clause lits.now ∷ [] }) }
         ensures err { OnErr result (self.new ≡ self.old) }
     {
@@ -101,7 +136,7 @@ impl ClauseList {
     pub fn add_clause(&mut self, clause: &Clause) -> Result<u64, NoMemory>
         requires in_range { InRange self.old.vars clause.now }
         ensures number { IfOk result (λ k. k ≡ length self.old.list) }
-        ensures small { IfOk result (λ k. k < 2 ^ 63) }
+        ensures small { IfOk result (λ k. k < clause_limit) }
         ensures ok { OnOk result (self.new ≡ record self.old { list = self.old.list ++ clause.now ∷ [] }) }
         ensures err { OnErr result (self.new ≡ self.old) }
     {
@@ -114,7 +149,7 @@ impl ClauseList {
         requires ascends { Ascends lits.now }
         requires in_range { InRange self.old.vars lits.now }
         ensures number { IfOk result (λ k. k ≡ length self.old.list) }
-        ensures small { IfOk result (λ k. k < 2 ^ 63) }
+        ensures small { IfOk result (λ k. k < clause_limit) }
         ensures ok { OnOk result (self.new ≡ record self.old { list = self.old.list ++ lits.now ∷ [] }) }
         ensures err { OnErr result (self.new ≡ self.old) }
     {

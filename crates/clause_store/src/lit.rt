@@ -44,7 +44,29 @@ impl PartialOrd for Lit {
 }
 
 impl Lit {
-    ghost use Rattle.clause_store.specs.Lits.{negated};
+    ghost use Rattle.clause_store.specs.Lits.{negated, negative_lit, positive_lit};
+
+    /// The literal that is true where the variable is.
+    #[inline]
+    pub fn positive(var: u32) -> Lit
+        ensures { result ≡ positive_lit var }
+    {
+        Lit {
+            var,
+            positive: true,
+        }
+    }
+
+    /// The literal that is true where the variable is false.
+    #[inline]
+    pub fn negative(var: u32) -> Lit
+        ensures { result ≡ negative_lit var }
+    {
+        Lit {
+            var,
+            positive: false,
+        }
+    }
 
     /// A number that orders the literals: by variable, positive first.
     #[inline]

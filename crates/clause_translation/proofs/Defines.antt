@@ -3,10 +3,11 @@ use Rattle.std.proofs.Common.{◌≡◌, ℕ, zero, suc, ◌+◌, ◌<◌, ◌�
 use Rattle.std.specs.Prelude.{map}
 use Rattle.clause_store.specs.declared.lit.Lit.{Lit}
 use Rattle.clause_store.specs.Lits.{positive_lit, IsWithin, InRange, AreInRange}
-use Rattle.clause_store.specs.Truth.{Agree, Satisfies, lit_true}
-use Rattle.clause_store.specs.Extends.{Extends, Are, Always}
+use Rattle.clause_store.specs.Truth.{Agree, AreTrue, lit_true}
+use Rattle.clause_store.specs.Extends.{Extends, Always}
 use Rattle.clause_store.proofs.Truths.{and_left, and_right, all_true-append, lit_agree, lit_true-negated, within_more}
 use Rattle.clause_store.proofs.Blocks.{single, next_are}
+use Rattle.clause_store.proofs.Each.{each_place}
 use Rattle.formulas.specs.declared.formula.Formula as formula
 use Rattle.formulas.specs.declared.formula.Formula.{Formula}
 use Rattle.formulas.specs.Words.{truth_at}
@@ -141,7 +142,7 @@ abbrev IsDefined : Formula → Type 0
 IsDefined f = (v : ℕ) (atoms : List Lit) → InRange v atoms → width_of f ≤ length atoms → Defines v atoms f (definition atoms f v)
 
 -- a node without parts
-defines_leaf : (f : Formula) (node : Lit → List (List Lit)) (v : ℕ) (atoms : List Lit) (value : (ℕ → Bool) → Bool) → definition atoms f v ≡ record { clauses = node (positive_lit (v + 1)); root = v + 1 } → ((a b : ℕ → Bool) → Agree v a b → value a ≡ value b) → AreInRange (v + 1) (node (positive_lit (v + 1))) → ((b : ℕ → Bool) → Satisfies b (node (positive_lit (v + 1))) → b (v + 1) ≡ value b) → ((b : ℕ → Bool) → b (v + 1) ≡ value b → Satisfies b (node (positive_lit (v + 1)))) → ((b : ℕ → Bool) → value b ≡ holds f (map (lit_true b) atoms)) → Defines v atoms f (definition atoms f v)
+defines_leaf : (f : Formula) (node : Lit → List (List Lit)) (v : ℕ) (atoms : List Lit) (value : (ℕ → Bool) → Bool) → definition atoms f v ≡ record { clauses = node (positive_lit (v + 1)); root = v + 1 } → ((a b : ℕ → Bool) → Agree v a b → value a ≡ value b) → AreInRange (v + 1) (node (positive_lit (v + 1))) → ((b : ℕ → Bool) → AreTrue (node (positive_lit (v + 1))) b → b (v + 1) ≡ value b) → ((b : ℕ → Bool) → b (v + 1) ≡ value b → AreTrue (node (positive_lit (v + 1))) b) → ((b : ℕ → Bool) → value b ≡ holds f (map (lit_true b) atoms)) → Defines v atoms f (definition atoms f v)
 defines_leaf f node v atoms value due local within to from holds_is =
     subst (λ d. Defines v atoms f d) (sym due) record {
       extends = single Always v (node (positive_lit (v + 1))) value (λ a b h p. tt) local within (λ b p r. to b r) (λ b p r. from b r);
@@ -149,13 +150,13 @@ defines_leaf f node v atoms value due local within to from holds_is =
     }
 
 -- a node over one part
-defines_one : (f p : Formula) (node : Lit → Lit → List (List Lit)) (op : Bool → Bool) → IsOverOne node f p → ((w : List Bool) → holds f w ≡ op (holds p w)) → ((v l : ℕ) → 1 ≤ v → 1 ≤ l → l ≤ v → AreInRange v (node (positive_lit v) (positive_lit l))) → ((b : ℕ → Bool) (v l : ℕ) → Satisfies b (node (positive_lit v) (positive_lit l)) → b v ≡ op (b l)) → ((b : ℕ → Bool) (v l : ℕ) → b v ≡ op (b l) → Satisfies b (node (positive_lit v) (positive_lit l))) → IsDefined p → IsDefined f
+defines_one : (f p : Formula) (node : Lit → Lit → List (List Lit)) (op : Bool → Bool) → IsOverOne node f p → ((w : List Bool) → holds f w ≡ op (holds p w)) → ((v l : ℕ) → 1 ≤ v → 1 ≤ l → l ≤ v → AreInRange v (node (positive_lit v) (positive_lit l))) → ((b : ℕ → Bool) (v l : ℕ) → AreTrue (node (positive_lit v) (positive_lit l)) b → b v ≡ op (b l)) → ((b : ℕ → Bool) (v l : ℕ) → b v ≡ op (b l) → AreTrue (node (positive_lit v) (positive_lit l)) b) → IsDefined p → IsDefined f
 defines_one f p node op is truth within to from known = λ v atoms in_range wide.
     let d = definition atoms p v in
     let own = node (positive_lit (d.root + 1)) (positive_lit d.root) in
     let part = known v atoms in_range (omega (arith, is.width)) in
     let lo : 1 ≤ d.root = omega (arith, root_is p atoms v, some_node p) in
-    let second : Extends Always (Are own) d.root (d.root + 1) =
+    let second : Extends Always (AreTrue own) d.root (d.root + 1) =
     single Always d.root own (λ b. op (b d.root)) (λ a b h p. tt) (λ a b h. ap op (h d.root lo (omega arith))) (within (d.root + 1) d.root (omega arith) lo (omega arith)) (λ b p r. to b (d.root + 1) d.root r) (λ b p r. from b (d.root + 1) d.root r) in
     subst (λ d. Defines v atoms f d) (sym (is.due atoms v)) record {
       extends = next_are Always Always v d.root (d.root + 1) d.clauses own part.extends second (λ b p r. tt);
@@ -165,7 +166,7 @@ defines_one f p node op is truth within to from known = λ v atoms in_range wide
     }
 
 -- a node over two parts
-defines_two : (f l r : Formula) (node : Lit → Lit → Lit → List (List Lit)) (op : Bool → Bool → Bool) → IsOverTwo node f l r → ((w : List Bool) → holds f w ≡ op (holds l w) (holds r w)) → ((v x y : ℕ) → 1 ≤ v → 1 ≤ x → x ≤ v → 1 ≤ y → y ≤ v → AreInRange v (node (positive_lit v) (positive_lit x) (positive_lit y))) → ((b : ℕ → Bool) (v x y : ℕ) → Satisfies b (node (positive_lit v) (positive_lit x) (positive_lit y)) → b v ≡ op (b x) (b y)) → ((b : ℕ → Bool) (v x y : ℕ) → b v ≡ op (b x) (b y) → Satisfies b (node (positive_lit v) (positive_lit x) (positive_lit y))) → IsDefined l → IsDefined r → IsDefined f
+defines_two : (f l r : Formula) (node : Lit → Lit → Lit → List (List Lit)) (op : Bool → Bool → Bool) → IsOverTwo node f l r → ((w : List Bool) → holds f w ≡ op (holds l w) (holds r w)) → ((v x y : ℕ) → 1 ≤ v → 1 ≤ x → x ≤ v → 1 ≤ y → y ≤ v → AreInRange v (node (positive_lit v) (positive_lit x) (positive_lit y))) → ((b : ℕ → Bool) (v x y : ℕ) → AreTrue (node (positive_lit v) (positive_lit x) (positive_lit y)) b → b v ≡ op (b x) (b y)) → ((b : ℕ → Bool) (v x y : ℕ) → b v ≡ op (b x) (b y) → AreTrue (node (positive_lit v) (positive_lit x) (positive_lit y)) b) → IsDefined l → IsDefined r → IsDefined f
 defines_two f l r node op is truth within to from known known' = λ v atoms in_range wide.
     let d = definition atoms l v in
     let e = definition atoms r d.root in
@@ -174,7 +175,7 @@ defines_two f l r node op is truth within to from known known' = λ v atoms in_r
     let hi : d.root ≤ e.root = omega (arith, root_is r atoms d.root) in
     let left = known v atoms in_range (omega (arith, is.width)) in
     let right = known' d.root atoms (within_more v d.root atoms left.extends.grows in_range) (omega (arith, is.width)) in
-    let last : Extends Always (Are own) e.root (e.root + 1) =
+    let last : Extends Always (AreTrue own) e.root (e.root + 1) =
     single Always e.root own (λ b. op (b d.root) (b e.root)) (λ a b h p. tt) (λ a b h. let x = h d.root lo hi in let y = h e.root (omega arith) (omega arith) in cc)
     (within (e.root + 1) d.root e.root (omega arith) lo (omega arith) (omega arith) (omega arith)) (λ b p r. to b (e.root + 1) d.root e.root r) (λ b p r. from b (e.root + 1) d.root e.root r) in
     subst (λ d. Defines v atoms f d) (sym (is.due atoms v)) record {
@@ -192,16 +193,11 @@ truth_at-map g [] k lt = absurd (omega arith)
 truth_at-map g (x ∷ xs) zero lt = refl
 truth_at-map g (x ∷ xs) (suc k) lt = truth_at-map g xs k (omega arith)
 
-pub lit_at : (v : ℕ) (atoms : List Lit) (k : ℕ) → InRange v atoms → k < length atoms → IsWithin v (atom_lit atoms k)
-lit_at v [] k h lt = absurd (omega arith)
-lit_at v (l ∷ ls) zero h lt = h.0
-lit_at v (l ∷ ls) (suc k) h lt = lit_at v ls k h.1 (omega arith)
-
 defines_atom : (k : ℕ) → IsDefined (formula.Atom k)
 defines_atom k = λ v atoms in_range wide.
     let lt : k < length atoms = omega (arith, width_atom k) in
     let x = atom_lit atoms k in
-    let is : IsWithin v x = lit_at v atoms k in_range lt in
+    let is : IsWithin v x = each_place (IsWithin v) atoms k (positive_lit 0) in_range lt in
     let up : IsWithin (v + 1) x = (is.0, let y = is.1 in omega arith) in
     defines_leaf (formula.Atom k) (λ n. atom_clauses n x) v atoms (λ b. lit_true b x) (ap (λ (h : ℕ → Definition). h v) (fold_atom (definition_step atoms) k)) (λ a b h. lit_agree v a b x h is)
     (((omega arith, omega arith), (up, tt)), (((omega arith, omega arith), (up, tt)), tt))

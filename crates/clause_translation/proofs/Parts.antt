@@ -1,29 +1,19 @@
 -- What is due for a formula, from what is due for its parts.
-use Rattle.std.proofs.Common.{◌≡◌, ℕ, zero, suc, ◌+◌, ◌<◌, ◌≤◌, ◌^◌, List, [], ◌∷◌, ◌++◌, length, max, refl, sym, ap, ◌∙◌, subst, arith, append_assoc, Result, Ok, Err}
-use Rattle.std.specs.Prelude.{map, OnOk, OnErr, slice_index_or}
+use Rattle.std.proofs.Common.{◌≡◌, ℕ, ◌+◌, ◌<◌, ◌≤◌, List, ◌++◌, length, max, refl, sym, ap, ◌∙◌, subst, arith, append_assoc}
+use Rattle.std.specs.Prelude.{map, slice_index_or}
+use Rattle.std.proofs.lemmas.List.{get_or_default}
 use Rattle.clause_store.specs.declared.lit.Lit.{Lit}
 use Rattle.clause_store.specs.Lits.{positive_lit, sorted_clause, IsWithin, InRange}
 use Rattle.clause_store.specs.Clauses.{Clauses}
 use Rattle.clause_store.specs.Grew.{Grew}
 use Rattle.clause_store.proofs.Truths.{within_more}
 use Rattle.clause_store.proofs.Grows.{stored-append, grew_front, grew_next}
+use Rattle.clause_store.specs.Limits.{var_limit}
 use Rattle.formulas.specs.declared.formula.Formula as formula
 use Rattle.formulas.specs.declared.formula.Formula.{Formula}
 use Rattle.formulas.specs.Formulas.{nodes_of, width_of}
 use Rattle.formulas.proofs.Equations.{fold_top, fold_bottom, fold_atom, fold_not, fold_and, fold_or, fold_implies, fold_iff, nodes_top, nodes_bottom, nodes_atom, nodes_not, nodes_and, nodes_or, nodes_implies, nodes_iff, width_atom, width_not, width_and, width_or, width_implies, width_iff, formula_induction}
 use Rattle.clause_translation.specs.Definition.{Definition, definition, definition_step, over_one, over_two, atom_clauses, not_clauses, and_clauses, or_clauses, implies_clauses, iff_clauses}
-
-pub on_err : {T E P : Type 0} (r : Result T E) → P → OnErr r P
-on_err (Ok x) p = tt
-on_err (Err e) p = p
-
-pub map_ok : {T E P Q : Type 0} (r : Result T E) → (P → Q) → OnOk r P → OnOk r Q
-map_ok (Ok x) f p = f p
-map_ok (Err e) f p = tt
-
-pub map_err : {T E P Q : Type 0} (r : Result T E) → (P → Q) → OnErr r P → OnErr r Q
-map_err (Ok x) f p = tt
-map_err (Err e) f p = f p
 
 -- a formula with one part
 pub record IsOverOne (node : Lit → Lit → List (List Lit)) (f p : Formula) : Type 0 where
@@ -83,16 +73,11 @@ iff_parts f l r l' r' e k h =
     }
 
 -- an atom
-other_default : (atoms : List Lit) (k : ℕ) (d e : Lit) → k < length atoms → slice_index_or atoms k d ≡ slice_index_or atoms k e
-other_default [] k d e lt = absurd (omega arith)
-other_default (x ∷ xs) zero d e lt = refl
-other_default (x ∷ xs) (suc k) d e lt = other_default xs k d e (omega arith)
-
 pub atom_due : (atoms : List Lit) (f : Formula) (k : ℕ) (d : Lit) (v : ℕ) → f ≡ formula.Atom k → width_of f ≤ length atoms → (definition atoms f v).clauses ≡ atom_clauses (positive_lit (v + 1)) (slice_index_or atoms k d)
 atom_due atoms f k d v e h =
     let w : k < length atoms = omega (arith, ap width_of e, width_atom k) in
     ap (λ x. (definition atoms x v).clauses) e ∙ ap (λ (h : ℕ → Definition). (h v).clauses) (fold_atom (definition_step atoms) k)
-    ∙ ap (λ x. atom_clauses (positive_lit (v + 1)) x) (other_default atoms k (positive_lit 0) d w)
+    ∙ ap (λ x. atom_clauses (positive_lit (v + 1)) x) (get_or_default atoms k (positive_lit 0) d w)
 
 pub atom_list : (atoms : List Lit) (f : Formula) (k : ℕ) (d : Lit) (old new : Clauses) → f ≡ formula.Atom k → width_of f ≤ length atoms → new.list ≡ old.list ++ map sorted_clause (atom_clauses (positive_lit (old.vars + 1)) (slice_index_or atoms k d)) → new.list ≡ old.list ++ map sorted_clause (definition atoms f old.vars).clauses
 atom_list atoms f k d old new e h l = l ∙ ap (λ cs. old.list ++ map sorted_clause cs) (sym (atom_due atoms f k d old.vars e h))
@@ -181,7 +166,7 @@ module _ (node : Lit → Lit → Lit → List (List Lit)) (f l r : Formula) (ato
     past_left : old.vars ≤ mid.vars
     past_left = omega (arith, root_is l atoms old.vars, vars)
 
-    pub right_room : old.vars + nodes_of f ≤ 2 ^ 31 → mid.vars + nodes_of r ≤ 2 ^ 31
+    pub right_room : old.vars + nodes_of f ≤ var_limit → mid.vars + nodes_of r ≤ var_limit
     right_room h = omega (arith, root_is l atoms old.vars, vars, is.nodes)
 
     pub right_known : width_of f ≤ length atoms → width_of r ≤ length atoms
@@ -212,7 +197,7 @@ module _ (node : Lit → Lit → Lit → List (List Lit)) (f l r : Formula) (ato
       past_right : mid.vars ≤ end.vars
       past_right = omega (arith, root_is r atoms mid.vars, vars')
 
-      pub node_room : old.vars + nodes_of f ≤ 2 ^ 31 → end.vars < 2 ^ 31
+      pub node_room : old.vars + nodes_of f ≤ var_limit → end.vars < var_limit
       node_room h = omega (arith, root_is l atoms old.vars, root_is r atoms mid.vars, vars, vars', is.nodes)
 
       pub left_within : IsWithin end.vars left

@@ -2,8 +2,8 @@
 use Rattle.std.specs.Prelude.{◌≡◌, ℕ, ◌+◌, Bool, List, [], ◌∷◌, ◌++◌, map, slice_index_or}
 use Rattle.clause_store.specs.declared.lit.Lit.{Lit}
 use Rattle.clause_store.specs.Lits.{positive_lit, negated}
-use Rattle.clause_store.specs.Truth.{lit_true, Satisfies}
-use Rattle.clause_store.specs.Extends.{Extends, Are, Always}
+use Rattle.clause_store.specs.Truth.{lit_true, AreTrue}
+use Rattle.clause_store.specs.Extends.{Extends, Always}
 use Rattle.formulas.specs.Formulas.{holds}
 use Rattle.formulas.specs.declared.formula.Formula.{Formula}
 use Rattle.formulas.specs.declared.formula.Formula.TheOpen.{Formula-F}
@@ -82,5 +82,5 @@ definition atoms f v = fold-Formula (ℕ → Definition) (definition_step atoms)
 -- each assignment of the first v variables extends in exactly one way to those up to the root so that the
 -- clauses are true, and there the root has the formula's value
 pub record Defines (v : ℕ) (atoms : List Lit) (f : Formula) (d : Definition) : Type 0 where
-  pub extends : Extends Always (Are d.clauses) v d.root
-  pub value : (b : ℕ → Bool) → Satisfies b d.clauses → b d.root ≡ holds f (map (lit_true b) atoms)
+  pub extends : Extends Always (AreTrue d.clauses) v d.root
+  pub value : (b : ℕ → Bool) → AreTrue d.clauses b → b d.root ≡ holds f (map (lit_true b) atoms)

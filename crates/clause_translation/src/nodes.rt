@@ -3,6 +3,7 @@
 ghost use Rattle.std.specs.Prelude.{◌≡◌, ℕ, ◌+◌, ◌<◌, ◌≤◌, ◌^◌, [], ◌∷◌, ◌++◌, IfOk, OnOk, OnErr, map};
 ghost use Rattle.clause_store.specs.Lits.{positive_lit, sorted_clause, IsWithin};
 ghost use Rattle.clause_store.specs.Grew.{Grew};
+ghost use Rattle.clause_store.specs.Limits.{var_limit};
 ghost use Rattle.clause_translation.specs.Definition.{top_clauses, bottom_clauses, atom_clauses, not_clauses, and_clauses, or_clauses, implies_clauses, iff_clauses};
 
 use clause_store::{ClauseList, Lit};
@@ -10,7 +11,7 @@ use edge::NoMemory;
 
 /// A node that is true.
 pub fn top_node(clauses: &mut ClauseList) -> Result<Lit, NoMemory>
-    requires room { clauses.old.vars < 2 ^ 31 }
+    requires room { clauses.old.vars < var_limit }
     ensures node { IfOk result (λ v. v ≡ positive_lit (clauses.old.vars + 1)) }
     ensures vars { OnOk result (clauses.new.vars ≡ clauses.old.vars + 1) }
     ensures list { OnOk result (clauses.new.list ≡ clauses.old.list ++ map sorted_clause (top_clauses (positive_lit (clauses.old.vars + 1)))) }
@@ -23,7 +24,7 @@ pub fn top_node(clauses: &mut ClauseList) -> Result<Lit, NoMemory>
 
 /// A node that is false.
 pub fn bottom_node(clauses: &mut ClauseList) -> Result<Lit, NoMemory>
-    requires room { clauses.old.vars < 2 ^ 31 }
+    requires room { clauses.old.vars < var_limit }
     ensures node { IfOk result (λ v. v ≡ positive_lit (clauses.old.vars + 1)) }
     ensures vars { OnOk result (clauses.new.vars ≡ clauses.old.vars + 1) }
     ensures list { OnOk result (clauses.new.list ≡ clauses.old.list ++ map sorted_clause (bottom_clauses (positive_lit (clauses.old.vars + 1)))) }
@@ -37,7 +38,7 @@ pub fn bottom_node(clauses: &mut ClauseList) -> Result<Lit, NoMemory>
 /// A node with the value of a literal.
 #[tactic(auto, using(clause_store::proofs::Grows::grew_none, clause_store::proofs::Grows::grew_one))]
 pub fn atom_node(clauses: &mut ClauseList, atom: Lit) -> Result<Lit, NoMemory>
-    requires room { clauses.old.vars < 2 ^ 31 }
+    requires room { clauses.old.vars < var_limit }
     requires atom { IsWithin clauses.old.vars atom }
     ensures node { IfOk result (λ v. v ≡ positive_lit (clauses.old.vars + 1)) }
     ensures vars { OnOk result (clauses.new.vars ≡ clauses.old.vars + 1) }
@@ -53,7 +54,7 @@ pub fn atom_node(clauses: &mut ClauseList, atom: Lit) -> Result<Lit, NoMemory>
 /// A negation.
 #[tactic(auto, using(clause_store::proofs::Grows::grew_none, clause_store::proofs::Grows::grew_one))]
 pub fn not_node(clauses: &mut ClauseList, part: Lit) -> Result<Lit, NoMemory>
-    requires room { clauses.old.vars < 2 ^ 31 }
+    requires room { clauses.old.vars < var_limit }
     requires part { IsWithin clauses.old.vars part }
     ensures node { IfOk result (λ v. v ≡ positive_lit (clauses.old.vars + 1)) }
     ensures vars { OnOk result (clauses.new.vars ≡ clauses.old.vars + 1) }
@@ -69,7 +70,7 @@ pub fn not_node(clauses: &mut ClauseList, part: Lit) -> Result<Lit, NoMemory>
 /// A conjunction.
 #[tactic(auto, using(clause_store::proofs::Grows::grew_none, clause_store::proofs::Grows::grew_one, clause_store::proofs::Grows::grew_two))]
 pub fn and_node(clauses: &mut ClauseList, left: Lit, right: Lit) -> Result<Lit, NoMemory>
-    requires room { clauses.old.vars < 2 ^ 31 }
+    requires room { clauses.old.vars < var_limit }
     requires left { IsWithin clauses.old.vars left }
     requires right { IsWithin clauses.old.vars right }
     ensures node { IfOk result (λ v. v ≡ positive_lit (clauses.old.vars + 1)) }
@@ -87,7 +88,7 @@ pub fn and_node(clauses: &mut ClauseList, left: Lit, right: Lit) -> Result<Lit, 
 /// A disjunction.
 #[tactic(auto, using(clause_store::proofs::Grows::grew_none, clause_store::proofs::Grows::grew_one, clause_store::proofs::Grows::grew_two))]
 pub fn or_node(clauses: &mut ClauseList, left: Lit, right: Lit) -> Result<Lit, NoMemory>
-    requires room { clauses.old.vars < 2 ^ 31 }
+    requires room { clauses.old.vars < var_limit }
     requires left { IsWithin clauses.old.vars left }
     requires right { IsWithin clauses.old.vars right }
     ensures node { IfOk result (λ v. v ≡ positive_lit (clauses.old.vars + 1)) }
@@ -105,7 +106,7 @@ pub fn or_node(clauses: &mut ClauseList, left: Lit, right: Lit) -> Result<Lit, N
 /// An implication.
 #[tactic(auto, using(clause_store::proofs::Grows::grew_none, clause_store::proofs::Grows::grew_one, clause_store::proofs::Grows::grew_two))]
 pub fn implies_node(clauses: &mut ClauseList, left: Lit, right: Lit) -> Result<Lit, NoMemory>
-    requires room { clauses.old.vars < 2 ^ 31 }
+    requires room { clauses.old.vars < var_limit }
     requires left { IsWithin clauses.old.vars left }
     requires right { IsWithin clauses.old.vars right }
     ensures node { IfOk result (λ v. v ≡ positive_lit (clauses.old.vars + 1)) }
@@ -123,7 +124,7 @@ pub fn implies_node(clauses: &mut ClauseList, left: Lit, right: Lit) -> Result<L
 /// An equivalence.
 #[tactic(auto, using(clause_store::proofs::Grows::grew_none, clause_store::proofs::Grows::grew_one, clause_store::proofs::Grows::grew_two, clause_store::proofs::Grows::grew_three))]
 pub fn iff_node(clauses: &mut ClauseList, left: Lit, right: Lit) -> Result<Lit, NoMemory>
-    requires room { clauses.old.vars < 2 ^ 31 }
+    requires room { clauses.old.vars < var_limit }
     requires left { IsWithin clauses.old.vars left }
     requires right { IsWithin clauses.old.vars right }
     ensures node { IfOk result (λ v. v ≡ positive_lit (clauses.old.vars + 1)) }

@@ -3,6 +3,7 @@
 ghost use Rattle.std.specs.Prelude.{◌≡◌, ℕ, ◌+◌, ◌<◌, ◌≤◌, ◌^◌, [], ◌∷◌, ◌++◌, IfOk, OnOk, OnErr, length, map};
 ghost use Rattle.clause_store.specs.Lits.{positive_lit, sorted_clause, InRange};
 ghost use Rattle.clause_store.specs.Grew.{Grew};
+ghost use Rattle.clause_store.specs.Limits.{var_limit};
 ghost use Rattle.formulas.specs.Formulas.{nodes_of, width_of};
 ghost use Rattle.clause_translation.specs.Definition.{definition, Defines};
 
@@ -15,7 +16,7 @@ use formulas::Formula;
 
 // The nodes of a formula, children first, the left before the right.
 fn define_nodes(clauses: &mut ClauseList, formula: &Formula, atoms: &[Lit]) -> Result<Lit, NoMemory>
-    requires room { clauses.old.vars + nodes_of formula.now ≤ 2 ^ 31 }
+    requires room { clauses.old.vars + nodes_of formula.now ≤ var_limit }
     requires known { width_of formula.now ≤ length atoms.now }
     requires in_range { InRange clauses.old.vars atoms.now }
     ensures root { IfOk result (λ r. r ≡ positive_lit (definition atoms.now formula.now clauses.old.vars).root) }
@@ -58,8 +59,7 @@ fn define_nodes(clauses: &mut ClauseList, formula: &Formula, atoms: &[Lit]) -> R
 /// root, the last of these variables. Atom `k` of the formula has the literal `atoms[k]`.
 /// After `NoMemory` the list has grown by some variables and some of these clauses, from the first on.
 pub fn define(clauses: &mut ClauseList, formula: &Formula, atoms: &[Lit]) -> Result<Lit, NoMemory>
-    requires few_nodes { nodes_of formula.now ≤ 4096 }
-    requires room { clauses.old.vars + nodes_of formula.now ≤ 2 ^ 31 }
+    requires room { clauses.old.vars + nodes_of formula.now ≤ var_limit }
     requires known { width_of formula.now ≤ length atoms.now }
     requires in_range { InRange clauses.old.vars atoms.now }
     ensures root { IfOk result (λ r. r ≡ positive_lit (definition atoms.now formula.now clauses.old.vars).root) }
@@ -80,27 +80,13 @@ mod tests {
     use sqlite_items::Boxed;
     use std::test::Fail;
 
-    fn positive(var: u32) -> Lit {
-        Lit {
-            var,
-            positive: true,
-        }
-    }
-
-    fn negative(var: u32) -> Lit {
-        Lit {
-            var,
-            positive: false,
-        }
-    }
-
     #[test]
     fn truth_is_one_clause(rt: HostRuntime) -> Result<(), Fail> {
         let mut clauses = ClauseList::new(rt.alloc());
         let root = define(&mut clauses, &Formula::Top, &[])?;
-        assert_eq!(rt; root, positive(1));
+        assert_eq!(rt; root, Lit::positive(1));
         assert_eq!(rt; clauses.len(), 1);
-        assert_eq!(rt; clauses.clause(0), [positive(1)].as_slice());
+        assert_eq!(rt; clauses.clause(0), [Lit::positive(1)].as_slice());
         Ok(())
     }
 
@@ -110,12 +96,24 @@ mod tests {
         let atom = clauses.fresh();
         let formula = Formula::Not(Boxed::new(rt.alloc(), Formula::Atom(0))?);
         let root = define(&mut clauses, &formula, &[atom])?;
-        assert_eq!(rt; root, positive(3));
+        assert_eq!(rt; root, Lit::positive(3));
         assert_eq!(rt; clauses.len(), 4);
-        assert_eq!(rt; clauses.clause(0), [positive(1), negative(2)].as_slice());
-        assert_eq!(rt; clauses.clause(1), [negative(1), positive(2)].as_slice());
-        assert_eq!(rt; clauses.clause(2), [negative(2), negative(3)].as_slice());
-        assert_eq!(rt; clauses.clause(3), [positive(2), positive(3)].as_slice());
+        assert_eq!(rt;
+            clauses.clause(0),
+            [Lit::positive(1), Lit::negative(2)].as_slice()
+        );
+        assert_eq!(rt;
+            clauses.clause(1),
+            [Lit::negative(1), Lit::positive(2)].as_slice()
+        );
+        assert_eq!(rt;
+            clauses.clause(2),
+            [Lit::negative(2), Lit::negative(3)].as_slice()
+        );
+        assert_eq!(rt;
+            clauses.clause(3),
+            [Lit::positive(2), Lit::positive(3)].as_slice()
+        );
         Ok(())
     }
 }

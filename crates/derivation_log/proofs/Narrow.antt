@@ -10,7 +10,7 @@ use Rattle.report_words.specs.Words.{line_of, later_text}
 use Rattle.clause_store.specs.declared.lit.Lit.{Lit}
 use Rattle.clause_store.specs.Lits.{rank_of, Ascends}
 use Rattle.clause_store.proofs.Lits.{IsBelow-trans}
-use Rattle.clause_store.proofs.Truths.{and_left, and_right, and_both}
+use Rattle.clause_store.proofs.Truths.{and_left, and_right, and_both, not_both}
 use Rattle.derivation_log.specs.declared.wide.WideLink.{WideLink}
 use Rattle.derivation_log.specs.declared.step.Link.{Link}
 use Rattle.derivation_log.specs.declared.step.Step.{Step}
@@ -132,16 +132,13 @@ links_small (l ∷ ls) h = or_false (is_big (widen l.pivot)) (any_big_pivot (map
 step_small : (n : ℕ) (s : Step) → HasLine n s → has_big (step_line n s) ≡ false
 step_small n s h = or_false (any_big (map widen s.clause)) (any_big_pivot (map widen_link s.chain)) (lits_small s.clause h.clause) (links_small s.chain h.pivots)
 
-no_both : (b : Bool) → b ≡ true → b ≡ false → ⊥
-no_both b e f = cc
-
 pub back : ReadBackLaw
 back n s (Ok read) h a m i = ap Ok (line_once read.0 n read.1 s (one (line_of (step_words (step_line n s))) (step_line read.0 read.1) (step_line n s) i.0 (has_line n s h)))
 back n s (Err Form) h a m i = absurd (i (step_line n s) (has_line n s h))
 back n s (Err TooBig) h a m i =
     let e = one (line_of (step_words (step_line n s))) i.0 (step_line n s) i.1 (has_line n s h) in
-    absurd (no_both (has_big (step_line n s)) (sym (ap has_big e) ∙ i.2) (step_small n s h))
+    absurd (not_both (has_big (step_line n s)) (sym (ap has_big e) ∙ i.2) (step_small n s h))
 back n s (Err Unsorted) h a m i =
     let e = one (line_of (step_words (step_line n s))) i.0 (step_line n s) i.1 (has_line n s h) in
-    absurd (no_both (rises (map widen s.clause)) (ascends_rises s.clause a) (sym (ap (λ (x : StepLine). rises x.clause) e) ∙ i.3))
+    absurd (not_both (rises (map widen s.clause)) (ascends_rises s.clause a) (sym (ap (λ (x : StepLine). rises x.clause) e) ∙ i.3))
 back n s (Err NoMemory) h a m i = absurd (m refl)

@@ -46,9 +46,15 @@ pub learned_push : (steps : List Step) (s : Step) → is_learned s.kind ≡ true
 learned_push [] s t = rw t refl
 learned_push (x ∷ xs) s t = elim (is_learned x.kind) as (λ b. cond b (x.clause ∷ learned_of (xs ++ s ∷ [])) (learned_of (xs ++ s ∷ [])) ≡ cond b (x.clause ∷ learned_of xs) (learned_of xs) ++ s.clause ∷ []) [ true ↦ ap (λ (ds : List (List Lit)). x.clause ∷ ds) (learned_push xs s t) | false ↦ learned_push xs s t ]
 
-pub clauses_push : (steps : List Step) (s : Step) → clauses_of (steps ++ s ∷ []) ≡ clauses_of steps ++ s.clause ∷ []
-clauses_push [] s = refl
-clauses_push (x ∷ xs) s = ap (λ (ds : List (List Lit)). x.clause ∷ ds) (clauses_push xs s)
+pub clauses_append : (xs ys : List Step) → clauses_of (xs ++ ys) ≡ clauses_of xs ++ clauses_of ys
+clauses_append [] ys = refl
+clauses_append (x ∷ xs) ys = ap (λ (ds : List (List Lit)). x.clause ∷ ds) (clauses_append xs ys)
+
+-- the clauses of a longer log
+pub known_front : (a b : Log) (more : List Step) → b.main ≡ a.main → b.steps ≡ a.steps ++ more → known_of b ≡ known_of a ++ clauses_of more
+known_front a b more e f =
+    ap (λ cs. cs ++ clauses_of b.steps) e ∙ ap (λ ss. a.main ++ clauses_of ss) f ∙ ap (λ cs. a.main ++ cs) (clauses_append a.steps more)
+    ∙ sym (append_assoc a.main (clauses_of a.steps) (clauses_of more))
 
 -- how the main list and the steps come from the whole list
 pub view_known : (all : List (List Lit)) (m : ℕ) (rows : List Row) → length all ≡ m + length rows → take m all ++ clauses_of (steps_of (drop m all) rows) ≡ all

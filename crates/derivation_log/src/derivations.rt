@@ -2,6 +2,7 @@
 ghost use Rattle.std.specs.Prelude.{◌≡◌, ◌+◌, ◌<◌, ◌≤◌, ◌-◌, map, [], ◌∷◌, ◌++◌, length, slice_get, Some, IfOk, OnOk, OnErr, ◌^◌};
 ghost use Rattle.clause_store.specs.Clauses.{Clauses};
 ghost use Rattle.clause_store.specs.Lits.{InRange};
+ghost use Rattle.clause_store.specs.Limits.{clause_limit};
 ghost use Rattle.derivation_log.specs.Logs.{Log, known_of, IsSound};
 ghost use Rattle.derivation_log.specs.StepLines.{HasLine};
 
@@ -71,7 +72,7 @@ impl Derivations {
     pub fn append(&mut self, step: Step) -> Result<u64, NoMemory>
         requires { InRange self.old.vars step.clause }
         ensures number { IfOk result (λ k. k ≡ length (known_of self.old)) }
-        ensures small { IfOk result (λ k. k < 2 ^ 63) }
+        ensures small { IfOk result (λ k. k < clause_limit) }
         ensures ok { OnOk result (self.new ≡ record self.old { steps = self.old.steps ++ step ∷ [] }) }
         ensures err { OnErr result (self.new ≡ self.old) }
     {

@@ -3,15 +3,16 @@ use Rattle.std.proofs.Common.{◌≡◌, ◌≢◌, ◌≤◌, ◌<◌, ℕ, Boo
 use Rattle.std.specs.List.{list_any}
 use Rattle.std.proofs.lemmas.Bool.Decides.{nat_tests}
 use Rattle.formulas.specs.Formulas.{depth_of}
+use Rattle.formulas.specs.Limits.{depth_limit}
 use Rattle.formulas.specs.declared.formula.Formula.{Formula}
 use Rattle.line_tokens.specs.Bytes.{is_bad}
 use Rattle.line_tokens.specs.Lexemes.{Lexeme, lexemes_of}
 use Rattle.formula_grammar.specs.declared.read.FormulaStop.{FormulaStop}
 use Rattle.formula_grammar.specs.declared.read.FormulaStop.TheVariants.{BadByte, BadForm, UnknownAtom, TooDeep, NoMemory}
-use Rattle.formula_grammar.specs.Limits.{depth_limit, open_limit}
+use Rattle.formula_grammar.specs.Limits.{open_limit}
 use Rattle.formula_grammar.specs.Machine.{operand, run}
 use Rattle.formula_grammar.specs.Makers.{formula_of}
-use Rattle.formula_grammar.specs.Readings.{IsSpelled, IsRead, IsStop, IsTextStop, IsReadOrStopped}
+use Rattle.formula_grammar.specs.Readings.{IsSpelled, IsRead, IsStop, IsTextStop, IsReadOrStopped, IsTooDeep}
 use Rattle.formula_grammar.specs.Symbols.{symbols_of, is_unknown, most_open}
 use Rattle.formula_grammar.proofs.Complete.{read_of}
 use Rattle.formula_grammar.proofs.Sound.{spelled_from_run}
@@ -25,6 +26,10 @@ above n m h = grind (arith, nat_tests)
 
 upto : (n m : ℕ) → nat_le n m ≡ true → n ≤ m
 upto n m h = grind (arith, nat_tests)
+
+pub not_deep : (ts : List Lexeme) (f : Formula) → depth_of f ≤ depth_limit → most_open 0 ts ≤ open_limit → IsTooDeep ts f → ⊥
+not_deep ts f d o (inl h) = absurd (omega (arith, d, h))
+not_deep ts f d o (inr h) = absurd (omega (arith, o, h))
 
 by_depth : (atoms : List (List ℕ)) (ts : List Lexeme) (shallow flat : Bool) (f : Formula) → IsSpelled atoms ts f → list_any (is_unknown atoms) ts ≡ false →
     nat_le (depth_of f) depth_limit ≡ shallow → nat_le (most_open 0 ts) open_limit ≡ flat → TokenChoice atoms ts

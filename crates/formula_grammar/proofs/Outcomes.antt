@@ -1,7 +1,8 @@
 -- What a count of depths tells of the formula that symbols spell.
-use Rattle.std.proofs.Common.{◌≡◌, ℕ, List, [], Option, Some, None, min, refl, ap, sym, ◌∙◌, arith}
+use Rattle.std.proofs.Common.{◌≡◌, ℕ, ◌+◌, List, [], Option, Some, None, min, refl, ap, sym, ◌∙◌, arith}
 use Rattle.std.specs.Option.{option_map}
 use Rattle.formulas.specs.Formulas.{depth_of}
+use Rattle.formulas.specs.Limits.{depth_limit}
 use Rattle.formulas.specs.declared.formula.Formula.{Formula}
 use Rattle.formulas.proofs.Equations.{depth_top, depth_bottom, depth_atom, depth_not, depth_and, depth_or, depth_implies, depth_iff}
 use Rattle.formula_grammar.specs.declared.symbol.Symbol.{Symbol}
@@ -14,7 +15,7 @@ use Rattle.formula_grammar.proofs.Sound.{spelled_from_run}
 use Rattle.formula_grammar.proofs.Depths.{Follows, run_map}
 
 abbrev pub capped : Formula → ℕ
-capped f = min (depth_of f) 129
+capped f = min (depth_of f) (depth_limit + 1)
 
 capped_follows : Follows capped formula_of capped_depth
 capped_follows Top = omega (arith, depth_top)

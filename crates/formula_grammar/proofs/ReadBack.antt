@@ -6,6 +6,7 @@ use Rattle.std.proofs.lemmas.Bool.Decides.{nat_tests}
 use Rattle.std.proofs.lemmas.List.{map-append}
 use Rattle.std.proofs.lemmas.List.Folds.{list_any-append}
 use Rattle.formulas.specs.Formulas.{depth_of, width_of}
+use Rattle.formulas.specs.Limits.{depth_limit}
 use Rattle.formulas.specs.Names.{are_names}
 use Rattle.formulas.specs.declared.formula.Formula.{Formula}
 use Rattle.formulas.specs.declared.formula.Formula as formula
@@ -192,7 +193,7 @@ pub tokens_of_text : (names : List (List ℕ)) → are_names names ≡ true → 
 tokens_of_text names are f w =
     ap lexemes_of (sym (append-nil (formula_text names f))) ∙ has_text names are f w [] refl ∙ append-nil (formula_lexemes names f)
 
-pub read_back : (names : List (List ℕ)) → are_names names ≡ true → (f : Formula) → width_of f ≤ length names → depth_of f ≤ 128 →
+pub read_back : (names : List (List ℕ)) → are_names names ≡ true → (f : Formula) → width_of f ≤ length names → depth_of f ≤ depth_limit →
     IsTextRead names (formula_text names f) f
 read_back names are f w d =
     let spelled = to_equivalence (spelled_at names are f w) in

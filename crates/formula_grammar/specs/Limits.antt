@@ -1,9 +1,5 @@
--- How deep a formula that is read may be.
+-- How many brackets a formula that is read may have open.
 use Rattle.std.specs.Prelude.{ℕ}
-
--- the greatest depth
-abbrev pub depth_limit : ℕ
-depth_limit = 128
 
 -- the most brackets that are open at one place
 abbrev pub open_limit : ℕ

@@ -2,7 +2,7 @@
 use Rattle.std.specs.Prelude.{ℕ, ◌+◌, min, max}
 use Rattle.formulas.specs.declared.formula.Formula.{Formula}
 use Rattle.formulas.specs.declared.formula.Formula as formula
-use Rattle.formula_grammar.specs.Limits.{depth_limit}
+use Rattle.formulas.specs.Limits.{depth_limit}
 use Rattle.formula_grammar.specs.declared.stack.Part.{Part}
 use Rattle.formula_grammar.specs.declared.stack.Part.TheVariants.{Top, Bottom, Atom, Not, And, Or, Implies, Iff}
 

@@ -8,7 +8,8 @@ use Rattle.line_tokens.specs.Lexemes.{Lexeme, lexemes_of}
 use Rattle.formula_grammar.specs.declared.read.FormulaStop.{FormulaStop}
 use Rattle.formula_grammar.specs.declared.read.FormulaStop.TheVariants.{BadByte, BadForm, UnknownAtom, TooDeep, NoMemory}
 use Rattle.formula_grammar.specs.Grammar.{equivalence, Spells}
-use Rattle.formula_grammar.specs.Limits.{depth_limit, open_limit}
+use Rattle.formulas.specs.Limits.{depth_limit}
+use Rattle.formula_grammar.specs.Limits.{open_limit}
 use Rattle.formula_grammar.specs.Symbols.{symbols_of, is_unknown, most_open}
 
 -- the tokens spell the formula, where an undeclared name is an atom past the others

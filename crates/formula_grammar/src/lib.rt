@@ -1,4 +1,4 @@
-// The grammar of formulas: which formula a text spells, and reading it.
+//! The grammar of formulas: which formula a text spells, and reading it.
 #![tactic(auto)]
 
 mod laws;
@@ -15,5 +15,5 @@ mod tests;
 pub use formula_text::write_formula;
 pub use formulas::{Atoms, Formula, Valuation};
 pub use laws::{canonical_text_is_read_back, each_text_has_one_outcome};
-pub use read::{FormulaStop, read_formula, read_tokens};
+pub use read::{FormulaStop, OPEN_LIMIT, read_formula, read_tokens};
 pub use symbols::node_count;

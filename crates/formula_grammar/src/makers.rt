@@ -3,11 +3,8 @@ ghost use Rattle.formula_grammar.specs.Makers.{formula_of, capped_depth};
 
 use crate::stack::{Maker, Part};
 use edge::NoMemory;
-use formulas::Formula;
+use formulas::{DEPTH_LIMIT, Formula};
 use std::alloc::Global;
-
-/// The greatest depth of a formula that is read.
-pub const DEPTH_LIMIT: u8 = 128;
 
 /// Makes the formula.
 #[derive(Drop)]

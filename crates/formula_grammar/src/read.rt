@@ -1,19 +1,20 @@
 ghost use Rattle.std.specs.Prelude.{◌≡◌, ◌≤◌, IfOk, IfErr, length, map, count_by};
 ghost use Rattle.formulas.specs.Formulas.{width_of, nodes_of};
+ghost use Rattle.formulas.specs.Names.{names_of};
 ghost use Rattle.line_tokens.specs.Lexemes.{lexeme_of};
 ghost use Rattle.formula_grammar.specs.Symbols.{is_node};
 ghost use Rattle.formula_grammar.specs.Readings.{IsRead, IsTextRead, IsStop, IsTextStop};
 
-use crate::makers::{DEPTH_LIMIT, Depths, Formulas};
+use crate::makers::{Depths, Formulas};
 use crate::run::run;
 use crate::symbols::{has_past, most_open, symbols};
 use edge::NoMemory as OutOfMemory;
-use formulas::{Atoms, Formula};
+use formulas::{Atoms, DEPTH_LIMIT, Formula};
 use line_tokens::{Token, tokens};
 use std::alloc::Global;
 
 /// The most brackets that are open at one place of a formula that is read.
-const OPEN_LIMIT: usize = 128;
+pub const OPEN_LIMIT: usize = 128;
 
 /// Why a text is not read as a formula.
 #[derive(Clone, Copy, Debug, PartialEq, Eq)]
@@ -24,7 +25,7 @@ pub enum FormulaStop {
     BadForm,
     /// A name is that of no atom.
     UnknownAtom,
-    /// More than 128 brackets are open at one place, or the depth is over 128.
+    /// More than `OPEN_LIMIT` brackets are open at one place, or the depth is over `DEPTH_LIMIT`.
     TooDeep,
     /// There was no memory left.
     NoMemory,
@@ -44,10 +45,10 @@ impl From<OutOfMemory> for FormulaStop {
 /// The formula that the tokens of a piece of a line spell, or the least fault that they have:
 /// never `BadByte`, since tokens have no bad bytes.
 pub fn read_tokens(alloc: Global, tokens: &[Token], atoms: &Atoms) -> Result<Formula, FormulaStop>
-    ensures read { IfOk result (IsRead atoms.now (map lexeme_of tokens.now)) }
+    ensures read { IfOk result (IsRead (names_of atoms.now) (map lexeme_of tokens.now)) }
     ensures width { IfOk result (λ formula. width_of formula ≤ length atoms.now) }
     ensures nodes { IfOk result (λ formula. nodes_of formula ≡ count_by is_node (map lexeme_of tokens.now)) }
-    ensures stop { IfErr result (IsStop atoms.now (map lexeme_of tokens.now)) }
+    ensures stop { IfErr result (IsStop (names_of atoms.now) (map lexeme_of tokens.now)) }
 {
     let symbols = symbols(alloc, tokens, atoms)?;
     let Some(depth) = run(alloc, &Depths, &symbols)? else {
@@ -71,10 +72,10 @@ pub fn read_tokens(alloc: Global, tokens: &[Token], atoms: &Atoms) -> Result<For
 /// The formula that a text spells over the atoms, or the least of `BadByte`, `BadForm`,
 /// `UnknownAtom` and `TooDeep` that it has; or `NoMemory`. A line feed or a `#` is a bad byte.
 pub fn read_formula(alloc: Global, text: &[u8], atoms: &Atoms) -> Result<Formula, FormulaStop>
-    ensures read { IfOk result (IsTextRead atoms.now text.now) }
+    ensures read { IfOk result (IsTextRead (names_of atoms.now) text.now) }
     ensures width { IfOk result (λ formula. width_of formula ≤ length atoms.now) }
     ensures nodes { IfOk result (λ formula. nodes_of formula ≤ length text.now) }
-    ensures stop { IfErr result (IsTextStop atoms.now text.now) }
+    ensures stop { IfErr result (IsTextStop (names_of atoms.now) text.now) }
 {
     match tokens(alloc, text)? {
         None => Err(FormulaStop::BadByte),

@@ -1,5 +1,6 @@
 ghost use Rattle.std.specs.Prelude.{◌≡◌, ◌<◌, ◌≤◌, ◌+◌, IfOk, map, count_by};
 ghost use Rattle.std.specs.List.{list_any};
+ghost use Rattle.formulas.specs.Names.{names_of};
 ghost use Rattle.line_tokens.specs.Lexemes.{lexeme_of};
 ghost use Rattle.formula_grammar.specs.Symbols.{word_symbol, symbol_of, symbols_of, is_past, is_node, number_in, opened, most_open};
 
@@ -11,13 +12,13 @@ use std::alloc::Global;
 
 /// The number of the atom of this name, or the number of atoms where there is none.
 fn number_in(name: &str, atoms: &Atoms) -> u32
-    ensures { result ≡ number_in atoms.now name.now }
+    ensures { result ≡ number_in (names_of atoms.now) name.now }
 {
     atoms.number_of(name).unwrap_or(atoms.len())
 }
 
 fn word_symbol(word: &str, atoms: &Atoms) -> Symbol
-    ensures { result ≡ word_symbol atoms.now word.now }
+    ensures { result ≡ word_symbol (names_of atoms.now) word.now }
 {
     if word == "true" {
         Symbol::True
@@ -31,7 +32,7 @@ fn word_symbol(word: &str, atoms: &Atoms) -> Symbol
 }
 
 fn symbol_of(token: Token, atoms: &Atoms) -> Symbol
-    ensures { result ≡ symbol_of atoms.now (lexeme_of token.entry) }
+    ensures { result ≡ symbol_of (names_of atoms.now) (lexeme_of token.entry) }
 {
     match token {
         Token::Bang => Symbol::Bang,
@@ -48,7 +49,7 @@ fn symbol_of(token: Token, atoms: &Atoms) -> Symbol
 
 /// The symbols of tokens, over the names of the atoms; `NoMemory` for want of memory.
 pub fn symbols(alloc: Global, tokens: &[Token], atoms: &Atoms) -> Result<Vec<Symbol>, NoMemory>
-    ensures { IfOk result (λ symbols. symbols.items ≡ symbols_of atoms.now (map lexeme_of tokens.now)) }
+    ensures { IfOk result (λ symbols. symbols.items ≡ symbols_of (names_of atoms.now) (map lexeme_of tokens.now)) }
 {
     let mut symbols = Vec::with_capacity(alloc, tokens.len())?;
     for token in tokens {

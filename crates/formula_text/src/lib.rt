@@ -1,8 +1,9 @@
-// Writes formulas in their canonical text.
+//! Writes formulas in their canonical text.
 #![tactic(auto)]
 
 ghost use Rattle.std.specs.Prelude.{◌≡◌, ◌≤◌, ◌++◌, length, OnOk, OnErr};
 ghost use Rattle.formulas.specs.Formulas.{width_of};
+ghost use Rattle.formulas.specs.Names.{names_of};
 ghost use Rattle.formula_text.specs.CanonicalText.{formula_text, joined_text, GrowsWithin};
 
 mod valuations;
@@ -16,8 +17,8 @@ pub use valuations::{write_valuation, write_valuations};
 #[cycle(writing)]
 pub fn write_formula(formula: &Formula, atoms: &Atoms, into: &mut Vec<u8>) -> Result<(), NoMemory>
     requires { width_of formula.now ≤ length atoms.now }
-    ensures written { OnOk result (into.new.items ≡ into.old.items ++ formula_text atoms.now formula.now) }
-    ensures partly { OnErr result (GrowsWithin into.old.items into.new.items (formula_text atoms.now formula.now)) }
+    ensures written { OnOk result (into.new.items ≡ into.old.items ++ formula_text (names_of atoms.now) formula.now) }
+    ensures partly { OnErr result (GrowsWithin into.old.items into.new.items (formula_text (names_of atoms.now) formula.now)) }
 {
     match formula {
         Formula::Top => write_bytes(b"true", into),
@@ -51,8 +52,8 @@ fn write_joined(
 ) -> Result<(), NoMemory>
     requires left { width_of left.now ≤ length atoms.now }
     requires right { width_of right.now ≤ length atoms.now }
-    ensures written { OnOk result (into.new.items ≡ into.old.items ++ joined_text (formula_text atoms.now left.now) mark.now (formula_text atoms.now right.now)) }
-    ensures partly { OnErr result (GrowsWithin into.old.items into.new.items (joined_text (formula_text atoms.now left.now) mark.now (formula_text atoms.now right.now))) }
+    ensures written { OnOk result (into.new.items ≡ into.old.items ++ joined_text (formula_text (names_of atoms.now) left.now) mark.now (formula_text (names_of atoms.now) right.now)) }
+    ensures partly { OnErr result (GrowsWithin into.old.items into.new.items (joined_text (formula_text (names_of atoms.now) left.now) mark.now (formula_text (names_of atoms.now) right.now))) }
 {
     write_bytes(b"(", into)?;
     write_formula(left, atoms, into)?;

@@ -1,4 +1,5 @@
 pub mod Formulas
+pub mod Limits
 pub mod Names
 pub mod WordLaws
 pub mod Words

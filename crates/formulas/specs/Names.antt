@@ -3,6 +3,7 @@ use Rattle.std.specs.Prelude.{ℕ, Bool, true, false, not, ◌&&◌, ◌||◌, �
 use Rattle.std.specs.Char.{is_ascii_alphanumeric, is_ascii_digit}
 use Rattle.std.specs.List.{list_all, list_any}
 use Rattle.std.specs.Str.{bytes_eq}
+use Rattle.formulas.specs.Limits.{name_limit}
 
 -- a byte of a word: a letter, a digit or `_`
 abbrev pub is_word_byte : ℕ → Bool
@@ -12,10 +13,6 @@ is_word_byte byte = is_ascii_alphanumeric byte || byte == 95
 abbrev pub is_plain_name : List ℕ → Bool
 is_plain_name [] = false
 is_plain_name (first ∷ rest) = not (is_ascii_digit first) && list_all is_word_byte (first ∷ rest)
-
--- the most bytes of a name
-abbrev pub name_limit : ℕ
-name_limit = 64
 
 -- such a word of at most so many bytes
 abbrev pub is_legal : List ℕ → Bool
@@ -34,9 +31,13 @@ abbrev pub are_distinct : List (List ℕ) → Bool
 are_distinct [] = true
 are_distinct (name ∷ names) = not (list_any (bytes_eq name) names) && are_distinct names
 
--- the most atoms that are named
-abbrev pub atom_limit : ℕ
-atom_limit = 32
+-- the atoms in order of number, as contracts see them: today each is its name
+abbrev pub AtomList : Type 0
+AtomList = List (List ℕ)
+
+-- the names of the atoms
+abbrev pub names_of : AtomList → List (List ℕ)
+names_of atoms = atoms
 
 -- distinct names, in order, as those of the atoms and those of the agents
 abbrev pub are_names : List (List ℕ) → Bool

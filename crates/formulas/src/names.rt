@@ -1,29 +1,29 @@
 ghost use Rattle.std.specs.Prelude.{◌≡◌, ◌<◌, ◌≤◌, [], ◌∷◌, ◌++◌, true, false, Some, length, position, slice_get, IfNone, IfOk, OnOk, OnErr};
 ghost use Rattle.std.specs.Str.{bytes_eq};
 ghost use Rattle.std.specs.List.{list_all, list_any};
-ghost use Rattle.formulas.specs.Names.{are_names, atom_limit, is_name, is_plain_name, is_reserved, is_word_byte};
+ghost use Rattle.formulas.specs.Limits.{atom_limit};
+ghost use Rattle.formulas.specs.Names.{are_names, is_name, is_plain_name, is_reserved, is_word_byte, names_of};
 
+use crate::limits::NAME_LIMIT;
 use edge::NoMemory;
 use indexmap::IndexSet;
 use std::alloc::Global;
 use std::marker::Model;
 
-/// The most bytes that the name of an atom or an agent has.
-const NAME_LIMIT: usize = 64;
-
 /// The names of the atoms, seen as the list of their bytes in order of number.
 ///
-/// There are at most 32, each is a name, and no two are the same.
+/// There are at most `ATOM_LIMIT`, each is a name, and no two are the same.
 #[derive(Drop)]
 pub struct Atoms {
     names: IndexSet<String>,
 }
 
 impl Model for Atoms {
-    ghost use Rattle.std.specs.Prelude.{List, ℕ, map, length, true, ◌≡◌, ◌≤◌, string_bytes};
-    ghost use Rattle.formulas.specs.Names.{are_names, atom_limit};
+    ghost use Rattle.std.specs.Prelude.{map, length, true, ◌≡◌, ◌≤◌, string_bytes};
+    ghost use Rattle.formulas.specs.Limits.{atom_limit};
+    ghost use Rattle.formulas.specs.Names.{AtomList, are_names};
 
-    ghost Value = { List (List ℕ) };
+    ghost Value = { AtomList };
 
     ghost view = { λ a. map string_bytes a.names.keys };
 
@@ -40,19 +40,19 @@ impl Atoms {
         }
     }
 
-    /// How many atoms there are, from 0 to 32.
+    /// How many atoms there are, from 0 to `ATOM_LIMIT`.
     pub fn len(&self) -> u32
         ensures number { result ≡ length self.now }
         ensures few { result ≤ atom_limit }
-        ensures names { are_names self.now ≡ true }
+        ensures names { are_names (names_of self.now) ≡ true }
     {
         self.names.len() as u32
     }
 
     /// The number of the atom of this name, or `None` exactly where there is none.
     pub fn number_of(&self, name: &str) -> Option<u32>
-        ensures number { result ≡ position (bytes_eq name.now) self.now }
-        ensures absent { IfNone result (list_any (bytes_eq name.now) self.now ≡ false) }
+        ensures number { result ≡ position (bytes_eq name.now) (names_of self.now) }
+        ensures absent { IfNone result (list_any (bytes_eq name.now) (names_of self.now) ≡ false) }
     {
         match self.names.get_index_of(name) {
             None => None,
@@ -63,7 +63,7 @@ impl Atoms {
     /// The name of atom `number`.
     pub fn name(&self, number: u32) -> &str
         requires { number < length self.now }
-        ensures { slice_get self.now number ≡ Some result.now }
+        ensures { slice_get (names_of self.now) number ≡ Some result.now }
     {
         match self.names.get_index(number as usize) {
             None => unreachable!(),
@@ -75,7 +75,7 @@ impl Atoms {
     pub fn add(&mut self, name: &str) -> Result<u32, NoMemory>
         requires name { is_name name.now ≡ true }
         requires few { length self.old < atom_limit }
-        requires absent { list_any (bytes_eq name.now) self.old ≡ false }
+        requires absent { list_any (bytes_eq name.now) (names_of self.old) ≡ false }
         ensures number { IfOk result (λ number. number ≡ length self.old) }
         ensures added { OnOk result (self.new ≡ self.old ++ name.now ∷ []) }
         ensures kept { OnErr result (self.new ≡ self.old) }
@@ -118,8 +118,8 @@ pub fn is_reserved(bytes: &[u8]) -> bool
     bytes == b"true".as_slice() || bytes == b"false".as_slice()
 }
 
-/// Whether an atom or an agent may be called this: a word of 1 to 64 bytes that does not begin
-/// with a digit and is neither `true` nor `false`.
+/// Whether an atom or an agent may be called this: a word of 1 to `NAME_LIMIT` bytes that
+/// does not begin with a digit and is neither `true` nor `false`.
 pub fn is_name(bytes: &[u8]) -> bool
     ensures { result ≡ is_name bytes.now }
 {

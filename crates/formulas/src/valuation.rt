@@ -1,5 +1,6 @@
 ghost use Rattle.std.specs.Prelude.{◌≡◌, ℕ, ◌+◌, ◌-◌, ◌<◌, ◌≤◌, ◌^◌, length, slice_set, MatchOption, replicate, true, IsTrue, ◌↔◌};
-ghost use Rattle.formulas.specs.Words.{truth_at, word_of, number_of, IsNext, IsBefore};
+ghost use Rattle.formulas.specs.Limits.{valuation_limit};
+ghost use Rattle.formulas.specs.Words.{truth_at, word_of, IsNext, IsBefore};
 
 use std::marker::Model;
 
@@ -18,6 +19,7 @@ pub struct Valuation {
 
 impl Model for Valuation {
     ghost use Rattle.std.specs.Prelude.{List, Bool, ◌<◌, ◌≤◌, ◌^◌, length, ◌≡◌};
+    ghost use Rattle.formulas.specs.Limits.{valuation_limit};
     ghost use Rattle.formulas.specs.Words.{word_of, number_of};
     ghost use Rattle.formulas.specs.WordLaws.{number_of_word, word_size};
     ghost use Rattle.std.proofs.Common.{ap, ◌∙◌};
@@ -26,7 +28,7 @@ impl Model for Valuation {
 
     ghost view = { λ a. word_of a.atoms a.bits };
 
-    ghost invariant = { λ a. (a.atoms ≤ 64) × (a.bits < 2 ^ a.atoms) };
+    ghost invariant = { λ a. (a.atoms ≤ valuation_limit) × (a.bits < 2 ^ a.atoms) };
 
     ghost inverse = { λ v. record { bits = number_of v; atoms = length v } };
 
@@ -36,7 +38,7 @@ impl Model for Valuation {
 impl Valuation {
     /// The valuation of `atoms` atoms that `bits` stands for.
     pub fn new(bits: u64, atoms: u32) -> Valuation
-        requires few { atoms ≤ 64 }
+        requires few { atoms ≤ valuation_limit }
         requires fits { bits < 2 ^ atoms }
         ensures { result ≡ word_of atoms bits }
     {
@@ -87,7 +89,7 @@ impl Valuation {
 
 /// The truth value of one atom, read from the bits.
 fn bit_of(bits: u64, atoms: u32, atom: u32) -> bool
-    requires few { atoms ≤ 64 }
+    requires few { atoms ≤ valuation_limit }
     requires fits { bits < 2 ^ atoms }
     requires within { atom < atoms }
     ensures { result ≡ truth_at (word_of atoms bits) atom }
@@ -98,7 +100,7 @@ fn bit_of(bits: u64, atoms: u32, atom: u32) -> bool
 /// The bits with one atom's truth value put in.
 #[tactic(auto, using(crate::proofs::WordOrder::word_set_true, crate::proofs::WordOrder::word_set_false, crate::proofs::WordOrder::word_set_same))]
 fn bits_with(bits: u64, atoms: u32, atom: u32, value: bool) -> u64
-    requires few { atoms ≤ 64 }
+    requires few { atoms ≤ valuation_limit }
     requires fits { bits < 2 ^ atoms }
     requires within { atom < atoms }
     ensures fits { result < 2 ^ atoms }
@@ -116,12 +118,12 @@ fn bits_with(bits: u64, atoms: u32, atom: u32, value: bool) -> u64
 
 /// The next number below `2 ^ atoms`, or `None` where there is none.
 fn bits_after(bits: u64, atoms: u32) -> Option<u64>
-    requires few { atoms ≤ 64 }
+    requires few { atoms ≤ valuation_limit }
     requires fits { bits < 2 ^ atoms }
     ensures { MatchOption result (2 ^ atoms ≤ bits + 1) (λ next. (next ≡ bits + 1) × (next < 2 ^ atoms)) }
 {
     let next = bits.checked_add(1)?;
-    if atoms < 64 && next >> atoms != 0 {
+    if atoms < u64::BITS && next >> atoms != 0 {
         return None;
     }
     Some(next)

@@ -8,7 +8,7 @@ use Rattle.std.proofs.lemmas.Option.{slice_get_within}
 use Rattle.clause_store.specs.declared.lit.Lit.{Lit}
 use Rattle.clause_store.specs.Lits.{rank_of, negated, resolvent, has, same_lit}
 use Rattle.clause_store.proofs.Lits.{rank_lit}
-use Rattle.clause_store.proofs.Truths.{and_left, and_right, and_both}
+use Rattle.clause_store.proofs.Truths.{and_left, and_right, and_both, not_both}
 use Rattle.derivation_log.specs.declared.step.Link.{Link}
 use Rattle.derivation_log.specs.declared.step.Step.{Step}
 use Rattle.derivation_log.specs.Logs.{Comes, Follows}
@@ -26,9 +26,6 @@ lt_true a b e = grind (arith, nat_tests)
 
 true_lt : (a b : ℕ) → a < b → nat_lt a b ≡ true
 true_lt a b h = grind (arith, nat_tests)
-
-pub no_both : (b : Bool) → b ≡ true → b ≡ false → ⊥
-no_both b e f = cc
 
 links_below : (n : ℕ) (links : List Link) → are_links_below n links ≡ true → AllBelow n links
 links_below n [] e = tt
@@ -48,7 +45,7 @@ pub below_step : (n : ℕ) (step : Step) → AreBelow n step → are_below n ste
 below_step n step h = and_both (nat_lt step.first n) (are_links_below n step.chain) (true_lt step.first n h.start) (below_links n step.chain h.links)
 
 pub not_below : (n : ℕ) (step : Step) → are_below n step ≡ false → AreBelow n step → ⊥
-not_below n step e h = no_both (are_below n step) (below_step n step h) e
+not_below n step e h = not_both (are_below n step) (below_step n step h) e
 
 pub comes : (known : List (List Lit)) (place : ℕ) (running : List Lit) (links : List Link) (end : List Lit) → AllBelow (length known) links → chain_from known place running links ≡ Ends end → Comes known running links end
 comes known place running [] end h e = cc

@@ -19,7 +19,7 @@ use Rattle.merge_cli.specs.Rows.{ProblemTextAnswers, refused, of_problem}
 
 pub merge_answered : (distance : DistanceName) (aggregator : AggregatorName) (problem : Problem) (answer : Answer) (status : ℕ) (text : List ℕ)
     → length problem.atoms ≤ built_limit
-    → IsRight (dist_named distance) (rank_named aggregator) problem answer ⊎ IsNamed problem answer
+    → IsRight (dist_named distance problem.atoms) (rank_named aggregator) problem answer ⊎ IsNamed problem answer
     → status ≡ status_of answer → text ≡ answer_report distance aggregator problem answer
     → MergeAnswers distance aggregator problem status text
 merge_answered d a p (Merged best measure verdicts) s t few (inl right) status text =
@@ -53,9 +53,9 @@ named_has p (Inconsistent constraint agents) named = names_lack (profile_of p) c
 named_has p GaveUp named = absurd named
 
 right_lacks_none : (distance : DistanceName) (aggregator : AggregatorName) (problem : Problem) (answer : Answer)
-    → IsRight (dist_named distance) (rank_named aggregator) problem answer → LacksModel (profile_of problem) → ⊥
+    → IsRight (dist_named distance problem.atoms) (rank_named aggregator) problem answer → LacksModel (profile_of problem) → ⊥
 right_lacks_none d a p (Merged best measure verdicts) right lacks =
-    right_has (dist_named d) (rank_named a) (profile_of p) p.asks best measure verdicts right lacks
+    right_has (dist_named d p.atoms) (rank_named a) (profile_of p) p.asks best measure verdicts right lacks
 right_lacks_none d a p (Inconsistent constraint agents) right lacks = right
 right_lacks_none d a p GaveUp right lacks = right
 

@@ -30,7 +30,7 @@ status_of GaveUp = 3
 -- the text reports a right merge of the problem
 pub record ReportsMerge (distance : DistanceName) (aggregator : AggregatorName) (problem : Problem) (text : List ℕ) : Type 0 where
   pub answer : Answer
-  pub right : IsRight (dist_named distance) (rank_named aggregator) problem answer
+  pub right : IsRight (dist_named distance problem.atoms) (rank_named aggregator) problem answer
   pub says : text ≡ answer_report distance aggregator problem answer
 
 -- the text reports which formulas of the problem have a model and which have none

@@ -4,6 +4,8 @@ use Rattle.std.proofs.lemmas.List.{length-map, length-replicate}
 use Rattle.std.proofs.lemmas.List.Elements.{All-nil, All-head, All-tail, All-map, All-append, All-replicate}
 use Rattle.std.proofs.lemmas.List.Sums.{sum_by-cons}
 use Rattle.formulas.specs.declared.formula.Formula.{Formula}
+use Rattle.formulas.specs.Limits.{valuation_limit}
+use Rattle.ranks.specs.Limits.{distance_limit}
 use Rattle.merge_model.specs.declared.agent.Agent.{Agent}
 use Rattle.merge_model.specs.declared.problem.Problem.{Problem}
 use Rattle.merge_model.specs.Answers.{profile_of}
@@ -47,20 +49,20 @@ some_times : (agents : List Agent) → 1 ≤ length agents → All (λ agent. 1 
 some_times [] some counts = absurd (omega arith)
 some_times (agent ∷ agents) some counts = omega (arith, sum_by-cons (λ agent. agent.times) agent agents, All-head (λ agent. 1 ≤ agent.times) agent agents counts)
 
--- distances between valuations over 1 to 64 atoms are at most 4,096
+-- distances between valuations over 1 to `valuation_limit` atoms are at most the greatest distance
 abbrev pub IsBounded : (List Bool → List Bool → ℕ) → Type 0
-IsBounded dist = (v w : List Bool) → length v ≡ length w → 1 ≤ length v → length v ≤ 64 → dist v w ≤ 4096
+IsBounded dist = (v w : List Bool) → length v ≡ length w → 1 ≤ length v → length v ≤ valuation_limit → dist v w ≤ distance_limit
 
 pub full_length : (dist : List Bool → List Bool → ℕ) (problem : Problem) (v : List Bool) → length (full_of dist (profile_of problem) v) ≡ sum_by (λ agent. agent.times) problem.agents
 full_length dist problem v =
     repeated_length problem.agents (vector_of dist (map (λ agent. agent.base) problem.agents) v)
     (length-map (map (λ agent. agent.base) problem.agents) (away dist v) ∙ length-map problem.agents (λ agent. agent.base))
 
-pub full_small : (dist : List Bool → List Bool → ℕ) (problem : Problem) (v : List Bool) → IsBounded dist → 1 ≤ length v → length v ≤ 64 → All (λ k. k ≤ 4096) (full_of dist (profile_of problem) v)
+pub full_small : (dist : List Bool → List Bool → ℕ) (problem : Problem) (v : List Bool) → IsBounded dist → 1 ≤ length v → length v ≤ valuation_limit → All (λ k. k ≤ distance_limit) (full_of dist (profile_of problem) v)
 full_small dist problem v bounded some few =
     let bases = map (λ agent. agent.base) problem.agents in
-    repeated_small 4096 (map (λ agent. agent.times) problem.agents) (vector_of dist bases v)
-    (All-map (λ k. k ≤ 4096) (away dist v) bases (λ i f within. away_within dist 4096 v _ (λ w same. bounded v w same some few)))
+    repeated_small distance_limit (map (λ agent. agent.times) problem.agents) (vector_of dist bases v)
+    (All-map (λ k. k ≤ distance_limit) (away dist v) bases (λ i f within. away_within dist distance_limit v _ (λ w same. bounded v w same some few)))
 
 -- the full vectors of the models of the constraint
 pub comparable : (dist : List Bool → List Bool → ℕ) (problem : Problem) → IsBounded dist →
@@ -75,8 +77,8 @@ comparable dist problem bounded =
       some = some_times problem.agents problem.limits.some_agent problem.limits.each_counts;
       few = omega (arith, problem.limits.few_times);
       sized = All-map (λ u. length u ≡ size) full candidates (among_all (λ v. length (full v) ≡ size) candidates (λ v among. full_length dist problem v));
-      small = All-map (All (λ k. k ≤ 4096)) full candidates
-          (among_all (λ v. All (λ k. k ≤ 4096) (full v)) candidates
+      small = All-map (All (λ k. k ≤ distance_limit)) full candidates
+          (among_all (λ v. All (λ k. k ≤ distance_limit) (full v)) candidates
           (λ v among.
           let is : length v ≡ n = (among_model n problem.constraint v among).size in
           full_small dist problem v bounded (omega (arith, problem.limits.some_atom)) (omega (arith, problem.limits.few_atoms))));

@@ -4,5 +4,6 @@ pub mod Closest
 pub mod Fulls
 pub mod Namings
 pub mod Nearest
+pub mod OperatorWords
 pub mod Passes
 pub mod Words

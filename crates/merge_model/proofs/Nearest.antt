@@ -1,12 +1,12 @@
 -- The nearest model of a list is at the least distance.
-use Rattle.std.proofs.Common.{◌≡◌, ℕ, ◌≤◌, ◌<◌, Bool, true, false, List, [], ◌∷◌, length, map, nat_lt, if◌then◌else◌, refl, ap, sym, ◌∙◌, arith, ◌⊎◌, inl, inr, All}
+use Rattle.std.proofs.Common.{◌≡◌, ℕ, ◌≤◌, ◌<◌, Bool, true, false, List, [], ◌∷◌, length, map, nat_lt, if◌then◌else◌, refl, ap, sym, subst, ◌∙◌, arith, ◌⊎◌, inl, inr, All}
 use Rattle.std.specs.List.{AllZip}
 use Rattle.std.proofs.lemmas.Bool.Decides.{nat_tests}
-use Rattle.std.proofs.lemmas.List.Elements.{All-head, All-tail, All-map, All-weaker}
+use Rattle.std.proofs.lemmas.List.Elements.{All-cons, All-nil, All-head, All-tail, All-map, All-weaker}
 use Rattle.formulas.specs.declared.formula.Formula.{Formula}
 use Rattle.merge_model.specs.Merging.{IsModel, HasModel, models_of, least_of, away, vector_of}
 use Rattle.merge_model.specs.Plain.{IsOver, nearest_from, nearest_of, distances_of}
-use Rattle.merge_model.proofs.Among.{Among, least_le, all_among, among_all, model_among, among_model}
+use Rattle.merge_model.proofs.Among.{Among, least_le, among_map, all_among, among_all, model_among, among_model}
 
 split_lt : (x y : ℕ) → ((x < y) × (nat_lt x y ≡ true)) ⊎ ((y ≤ x) × (nat_lt x y ≡ false))
 split_lt x y = grind (arith, nat_tests)
@@ -67,11 +67,25 @@ pub tables_over : (n : ℕ) (bases : List Formula) → All (HasModel n) bases �
 tables_over n bases h =
     All-map (IsOver n) (models_of n) bases (All-weaker (HasModel n) (λ f. IsOver n (models_of n f)) (λ f m. models_over n f m) bases h)
 
+-- where each base has a model that is given, each has one
+pub have_models : (n : ℕ) (bases : List Formula) (ws : List (List Bool)) → AllZip (IsModel n) bases ws → All (HasModel n) bases
+have_models n [] [] h = All-nil (HasModel n)
+have_models n [] (w ∷ ws) h = absurd h
+have_models n (f ∷ bases) [] h = absurd h
+have_models n (f ∷ bases) (w ∷ ws) h = All-cons (HasModel n) f bases (w, h.0) (have_models n bases ws h.1)
+
 -- the distance to the nearest of the models is the distance to the base
 module _ (dist : List Bool → List Bool → ℕ) (n : ℕ) (v : List Bool) (size : length v ≡ n) where
   nearest_away : (f : Formula) → HasModel n f → dist v (nearest_of dist v (models_of n f)) ≡ away dist v f
   nearest_away f m =
       nearest_is dist v (models_of n f) (models_over n f m).some ∙ ap (λ k. least_of (map (dist v) (models_of k f))) (sym size)
+
+  -- no model of the base is nearer than its distance
+  pub away_least : (f : Formula) (w : List Bool) → IsModel n f w → away dist v f ≤ dist v w
+  away_least f w m =
+      let models = models_of (length v) f in
+      least_le (dist v w) (map (dist v) models)
+      (among_map (dist v) w models (model_among (length v) f w (subst (λ (k : ℕ). IsModel k f w) (sym size) m)))
 
   pub vector_is : (bases : List Formula) → All (HasModel n) bases → distances_of dist (map (models_of n) bases) v ≡ vector_of dist bases v
   vector_is [] h = refl
@@ -88,3 +102,29 @@ module _ (dist : List Bool → List Bool → ℕ) (n : ℕ) (v : List Bool) (siz
         (among_model n f (nearest_of dist v (models_of n f)) (nearest_among dist v (models_of n f) (models_over n f m).some), nearest_away f m),
         nearest_shown bases (All-tail (HasModel n) f bases h),
       )
+
+  -- a model that none is nearer than is at the distance to the base
+  pub away_is : (f : Formula) (w : List Bool) → IsModel n f w → ((u : List Bool) → IsModel n f u → dist v w ≤ dist v u) → dist v w ≡ away dist v f
+  away_is f w m least =
+      let has : HasModel n f = (w, m) in
+      let u = nearest_of dist v (models_of n f) in
+      let near : dist v w ≤ dist v u = least u (among_model n f u (nearest_among dist v (models_of n f) (models_over n f has).some)) in
+      omega (arith, nearest_away f has, away_least f w m)
+
+  shown_apart : (bases : List Formula) (ws : List (List Bool)) → AllZip (λ base near. IsModel n base near × (dist v near ≡ away dist v base)) bases ws →
+      AllZip (IsModel n) bases ws × (map (dist v) ws ≡ vector_of dist bases v)
+  shown_apart [] [] h = (tt, refl)
+  shown_apart [] (w ∷ ws) h = absurd h
+  shown_apart (f ∷ bases) [] h = absurd h
+  shown_apart (f ∷ bases) (w ∷ ws) h =
+      let here : dist v w ≡ away dist v f = h.0.1 in
+      let rest = shown_apart bases ws h.1 in
+      let others : map (dist v) ws ≡ vector_of dist bases v = rest.1 in
+      ((h.0.0, rest.0), cc)
+
+  -- models of the bases at the distances to them
+  pub nearest_copies : (bases : List Formula) → All (HasModel n) bases → (ws : List (List Bool)) × AllZip (IsModel n) bases ws × (map (dist v) ws ≡ vector_of dist bases v)
+  nearest_copies bases h =
+      let ws = map (nearest_of dist v) (map (models_of n) bases) in
+      let parts = shown_apart bases ws (nearest_shown bases h) in
+      (ws, parts.0, parts.1)

@@ -3,6 +3,7 @@ use Rattle.std.specs.Prelude.{◌≡◌, ℕ, Bool, false, List, length, map, Co
 use Rattle.std.specs.List.{AllZip}
 use Rattle.formulas.specs.declared.formula.Formula.{Formula}
 use Rattle.formulas.specs.Formulas.{holds}
+use Rattle.formulas.specs.Names.{AtomList}
 use Rattle.ranks.specs.Ranks.{sum_rank, max_rank, leximax_rank}
 use Rattle.merge_model.specs.declared.answer.Answer.{Answer}
 use Rattle.merge_model.specs.declared.answer.Answer.TheVariants.{Merged, Inconsistent, GaveUp}
@@ -17,10 +18,15 @@ use Rattle.merge_model.specs.declared.problem.Problem.{Problem}
 use Rattle.merge_model.specs.Distances.{drastic, hamming}
 use Rattle.merge_model.specs.Merging.{Profile, IsModel, HasModel, IsClosest, IsEntailed, away, vector_of, repeated}
 
--- the distance of a name
-abbrev pub dist_named : DistanceName → List Bool → List Bool → ℕ
-dist_named Drastic = drastic
-dist_named Hamming = hamming
+-- the distance of a name, between valuations of these atoms
+abbrev pub dist_named : DistanceName → AtomList → List Bool → List Bool → ℕ
+dist_named Drastic atoms = drastic
+dist_named Hamming atoms = hamming
+
+-- the greatest distance that it gives over the first n of these atoms
+abbrev pub most_named : DistanceName → AtomList → ℕ → ℕ
+most_named Drastic atoms n = 1
+most_named Hamming atoms n = n
 
 -- the rank of a name
 abbrev pub rank_named : AggregatorName → List ℕ → List ℕ

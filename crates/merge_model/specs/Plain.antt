@@ -2,6 +2,7 @@
 use Rattle.std.specs.Prelude.{◌≡◌, ℕ, ◌<◌, ◌≤◌, Bool, false, List, [], ◌∷◌, length, map, All, get_or, nat_lt, if◌then◌else◌, Option, None, Some}
 use Rattle.formulas.specs.declared.formula.Formula.{Formula}
 use Rattle.formulas.specs.Formulas.{holds}
+use Rattle.ranks.specs.Limits.{distance_limit, entry_limit}
 use Rattle.ranks.specs.Ranks.{IsNoWorse}
 
 -- some valuations over n atoms
@@ -27,9 +28,9 @@ distances_of dist tables v = map (dist v) (map (nearest_of dist v) tables)
 pub record AreComparable (fulls : List (List ℕ)) : Type 0 where
   pub size : ℕ
   pub some : 1 ≤ size
-  pub few : size ≤ 64
+  pub few : size ≤ entry_limit
   pub sized : All (λ u. length u ≡ size) fulls
-  pub small : All (All (λ k. k ≤ 4096)) fulls
+  pub small : All (All (λ k. k ≤ distance_limit)) fulls
 
 -- the full vector in place `best` is no worse than those in the first places
 pub record IsBestOf (rank : List ℕ → List ℕ) (fulls : List (List ℕ)) (places best : ℕ) : Type 0 where

@@ -1,12 +1,15 @@
 ghost use Rattle.std.specs.Prelude.{◌≡◌, ℕ, ◌≤◌, List, Bool, length};
+ghost use Rattle.formulas.specs.Limits.{valuation_limit};
+ghost use Rattle.ranks.specs.Limits.{distance_limit};
 
 use formulas::Valuation;
 
 /// How far two valuations over one number of atoms are apart.
 ///
 /// Its meaning is `dist`, over the lists of their truth values. The laws are those below the
-/// methods: a distance is symmetric, it is 0 exactly for equal valuations, and for 1 to 64 atoms it
-/// is at most `most`, which is from 1 to 4,096. No triangle inequality is asked.
+/// methods: a distance is symmetric, it is 0 exactly for equal valuations, and for 1 to
+/// `valuation_limit` atoms it is at most `most`, which is from 1 to `distance_limit`. No triangle
+/// inequality is asked.
 pub trait Distance {
     /// The distance, of the lists of truth values.
     ghost dist: { Self → List Bool → List Bool → ℕ };
@@ -19,14 +22,15 @@ pub trait Distance {
         requires { length left ≡ length right }
         ensures { result ≡ dist self.now left right };
 
-    /// The greatest distance over so many atoms, a number from 1 to 4,096.
+    /// The greatest distance over so many atoms, a number from 1 to `distance_limit`.
     fn top(&self, atoms: u32) -> u32
         requires some { 1 ≤ atoms }
-        requires few { atoms ≤ 64 }
+        requires few { atoms ≤ valuation_limit }
         ensures { result ≡ most self.now atoms };
 
     /// The order of the two valuations does not matter.
-    ghost symmetric: { (d : Self) (v w : List Bool) → length v ≡ length w → dist d v w ≡ dist d w v };
+    ghost symmetric: { (d : Self) (v w : List Bool) → length v ≡ length w →
+        dist d v w ≡ dist d w v };
 
     /// A valuation is at 0 from itself.
     ghost same: { (d : Self) (v : List Bool) → dist d v v ≡ 0 };
@@ -34,14 +38,15 @@ pub trait Distance {
     /// At 0 from each other are equal valuations alone.
     ghost apart: { (d : Self) (v w : List Bool) → length v ≡ length w → dist d v w ≡ 0 → v ≡ w };
 
-    /// No distance over 1 to 64 atoms is above `most`.
-    ghost within: { (d : Self) (v w : List Bool) → length v ≡ length w → 1 ≤ length v → length v ≤ 64 → dist d v w ≤ most d (length v) };
+    /// No distance over 1 to `valuation_limit` atoms is above `most`.
+    ghost within: { (d : Self) (v w : List Bool) → length v ≡ length w → 1 ≤ length v →
+        length v ≤ valuation_limit → dist d v w ≤ most d (length v) };
 
-    /// `most` is at least 1 for 1 to 64 atoms.
-    ghost some_most: { (d : Self) (n : ℕ) → 1 ≤ n → n ≤ 64 → 1 ≤ most d n };
+    /// `most` is at least 1 for 1 to `valuation_limit` atoms.
+    ghost some_most: { (d : Self) (n : ℕ) → 1 ≤ n → n ≤ valuation_limit → 1 ≤ most d n };
 
-    /// `most` is at most 4,096 for 1 to 64 atoms.
-    ghost bounded: { (d : Self) (n : ℕ) → 1 ≤ n → n ≤ 64 → most d n ≤ 4096 };
+    /// `most` is at most `distance_limit` for 1 to `valuation_limit` atoms.
+    ghost bounded: { (d : Self) (n : ℕ) → 1 ≤ n → n ≤ valuation_limit → most d n ≤ distance_limit };
 }
 
 /// 0 for equal valuations, and 1 otherwise.

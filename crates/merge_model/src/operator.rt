@@ -1,3 +1,6 @@
+ghost use Rattle.std.specs.Prelude.{◌≡◌, ◌≢◌, IfSome, IfNone};
+ghost use Rattle.merge_model.specs.OperatorWords.{distance_word, aggregator_word};
+
 /// Which distance a problem is merged by.
 #[derive(Clone, Copy, Debug, PartialEq, Eq)]
 pub enum DistanceName {
@@ -5,6 +8,30 @@ pub enum DistanceName {
     Drastic,
     /// The number of atoms on which two valuations differ.
     Hamming,
+}
+
+impl DistanceName {
+    /// The word of this distance.
+    pub fn word(self) -> &'static str
+        ensures { result.now ≡ distance_word self }
+    {
+        match self {
+            DistanceName::Drastic => "drastic",
+            DistanceName::Hamming => "hamming",
+        }
+    }
+
+    /// The distance that has this word, or `None` where none has.
+    pub fn of_word(word: &str) -> Option<DistanceName>
+        ensures some { IfSome result (λ name. word.now ≡ distance_word name) }
+        ensures none { IfNone result ((name : _) → word.now ≢ distance_word name) }
+    {
+        match word {
+            "drastic" => Some(DistanceName::Drastic),
+            "hamming" => Some(DistanceName::Hamming),
+            _ => None,
+        }
+    }
 }
 
 /// Which aggregator a problem is merged by.
@@ -16,4 +43,30 @@ pub enum AggregatorName {
     Max,
     /// The distances from greatest to least, lexicographically.
     Leximax,
+}
+
+impl AggregatorName {
+    /// The word of this aggregator.
+    pub fn word(self) -> &'static str
+        ensures { result.now ≡ aggregator_word self }
+    {
+        match self {
+            AggregatorName::Sum => "sum",
+            AggregatorName::Max => "max",
+            AggregatorName::Leximax => "leximax",
+        }
+    }
+
+    /// The aggregator that has this word, or `None` where none has.
+    pub fn of_word(word: &str) -> Option<AggregatorName>
+        ensures some { IfSome result (λ name. word.now ≡ aggregator_word name) }
+        ensures none { IfNone result ((name : _) → word.now ≢ aggregator_word name) }
+    {
+        match word {
+            "sum" => Some(AggregatorName::Sum),
+            "max" => Some(AggregatorName::Max),
+            "leximax" => Some(AggregatorName::Leximax),
+            _ => None,
+        }
+    }
 }

@@ -60,7 +60,7 @@ pub fn merge_named(
     problem: &Problem,
 ) -> Result<Answer, NoMemory>
     requires { length problem.now.atoms ≤ 8 }
-    ensures answer { IfOk result (λ answer. IsRight (dist_named distance) (rank_named aggregator) problem.now answer
+    ensures answer { IfOk result (λ answer. IsRight (dist_named distance problem.now.atoms) (rank_named aggregator) problem.now answer
         ⊎ IsNamed problem.now answer) }
     ensures inconsistent { IfOk result (λ answer. IsNamed problem.now answer ↔ LacksModel (profile_of problem.now)) }
 {

@@ -10,6 +10,7 @@ pub struct Leximax;
 
 impl Aggregator for Leximax {
     ghost use Rattle.std.proofs.Common.{◌∙◌, sym, arith};
+    ghost use Rattle.ranks.specs.Limits.{distance_limit};
     ghost use Rattle.ranks.specs.Ranks.{leximax_rank};
     ghost use Rattle.ranks.proofs.Orders.{length_down};
     ghost use Rattle.ranks.proofs.Laws.{leximax_unordered, leximax_monotone, leximax_zero, leximax_joined};
@@ -18,13 +19,13 @@ impl Aggregator for Leximax {
 
     ghost sized = { λ _ u w h. length_down u ∙ h ∙ sym (length_down w) };
 
-    ghost unordered = { λ _ u w small _ h. leximax_unordered 4096 u w small h };
+    ghost unordered = { λ _ u w small _ h. leximax_unordered distance_limit u w small h };
 
-    ghost monotone = { λ _ u w small _ h. leximax_monotone 4096 u w small h };
+    ghost monotone = { λ _ u w small _ h. leximax_monotone distance_limit u w small h };
 
-    ghost zero_least = { λ _ u small _ h. leximax_zero 4096 u (Prim.omega arith) small h };
+    ghost zero_least = { λ _ u small _ h. leximax_zero distance_limit u (Prim.omega arith) small h };
 
-    ghost joined = { λ _ u w s t small _ _ e f h i. leximax_joined 4096 u w s t small e f h i };
+    ghost joined = { λ _ u w s t small _ _ e f h i. leximax_joined distance_limit u w s t small e f h i };
 
     fn compare(&self, left: &[u32], right: &[u32]) -> Ordering {
         compare_sorted_down(left, right)
@@ -39,7 +40,8 @@ impl Aggregator for Leximax {
 }
 
 impl StrictAggregator for Leximax {
+    ghost use Rattle.ranks.specs.Limits.{distance_limit};
     ghost use Rattle.ranks.proofs.Laws.{leximax_strict};
 
-    ghost strict = { λ _ u w s t small _ _ e f h i j. leximax_strict 4096 u w s t small e f h i j };
+    ghost strict = { λ _ u w s t small _ _ e f h i j. leximax_strict distance_limit u w s t small e f h i j };
 }

@@ -9,13 +9,14 @@ use Rattle.formulas.specs.Names.{is_name, is_reserved, are_distinct, are_names}
 use Rattle.formulas.specs.declared.formula.Formula.{Formula}
 use Rattle.formulas.specs.declared.formula.Formula as formula
 use Rattle.formulas.proofs.Equations.{nodes_top, width_top, depth_top}
+use Rattle.formulas.specs.Limits.{atom_limit}
 use Rattle.line_tokens.specs.Lexemes.{lexemes_of}
 use Rattle.merge_model.specs.Limits.{IsWithin, KeepsLimits}
 use Rattle.problem_lines.specs.Forms.{Form, blank, declaration, condition, belief, query}
 use Rattle.problem_lines.specs.Lines.{content_of}
 use Rattle.problem_reading.specs.declared.said.Said.{Said}
 use Rattle.problem_reading.specs.declared.said.Said.TheVariants.{Nothing, Names, Condition, Belief, Query}
-use Rattle.problem_reading.specs.Drafts.{Draft, constraint_size}
+use Rattle.problem_reading.specs.Drafts.{Draft, constraint_size, is_long}
 use Rattle.problem_reading.specs.Faults.{line_form}
 use Rattle.problem_reading.specs.Fitting.{Fits, FitsCondition, FitsQuery}
 use Rattle.problem_reading.specs.Kept.{IsKept}
@@ -28,7 +29,7 @@ use Rattle.problem_reading.proofs.NameLists.{joined_names, all_names}
 -- what lines declare keeps the limits so far
 pub record KeepsSoFar (d : Draft) : Type 0 where
   pub names : are_names d.atoms ≡ true
-  pub few : length d.atoms ≤ 32
+  pub few : length d.atoms ≤ atom_limit
   pub own : ℕ
   pub others : ℕ
   pub repeats : ℕ
@@ -41,16 +42,16 @@ not_twice : (distinct twice : Bool) → (not distinct || twice) ≡ false → (d
 not_twice true twice h = (refl, h)
 not_twice false twice h = absurd (cc)
 
-few_short : (n : ℕ) (long : Bool) → (nat_lt 32 n || long) ≡ false → (n ≤ 32) × (long ≡ false)
+few_short : (n : ℕ) (long : Bool) → (nat_lt atom_limit n || long) ≡ false → (n ≤ atom_limit) × (long ≡ false)
 few_short n true h = absurd (grind arith)
 few_short n false h = (grind (arith, nat_tests), refl)
 
 after_names : (d : Draft) (names atoms : List (List ℕ)) → FormOk (declaration names) → IsSaid d (declaration names) (Names atoms) → KeepsSoFar d → KeepsSoFar (record d { atoms = atoms })
 after_names d names atoms (ts, words, tokens) h k =
     let once = not_twice (are_distinct names) (list_any (λ name. list_any (bytes_eq name) d.atoms) names) h.1 in
-    let small = few_short (length d.atoms + length names) (list_any (λ name. nat_lt 64 (length name)) names) h.2 in
+    let small = few_short (length d.atoms + length names) (list_any is_long names) h.2 in
     let legal : list_all is_name names ≡ true =
-    subst (λ (ns : List (List ℕ)). list_any is_reserved ns ≡ false → list_any (λ n. nat_lt 64 (length n)) ns ≡ false → list_all is_name ns ≡ true) (sym words)
+    subst (λ (ns : List (List ℕ)). list_any is_reserved ns ≡ false → list_any is_long ns ≡ false → list_all is_name ns ≡ true) (sym words)
     (λ free short. all_names ts tokens free short) h.0 small.1 in
     let size = ap length h.3 ∙ length-append d.atoms names in
     let grown : length d.atoms ≤ length atoms = omega (arith, size) in

@@ -3,6 +3,7 @@ use Rattle.std.proofs.Common.{◌≡◌, ◌≤◌, ℕ, Bool, true, false, ◌�
 use Rattle.std.specs.List.{list_any}
 use Rattle.formulas.specs.Formulas.{depth_of}
 use Rattle.formulas.specs.declared.formula.Formula.{Formula}
+use Rattle.formula_grammar.proofs.Choice.{not_deep}
 use Rattle.line_tokens.specs.Bytes.{is_bad}
 use Rattle.line_tokens.specs.Lexemes.{Lexeme}
 use Rattle.formula_grammar.specs.Readings.{IsSpelled, IsRead, IsTooDeep}
@@ -122,10 +123,6 @@ no_name_fault r t o UnknownAtom e h i f = f
 no_name_fault r t o TooDeep e h i f = f
 no_name_fault r t o NoAtoms e h i f = f
 no_name_fault r t o NoAgent e h i f = f
-
-not_deep : (ts : List Lexeme) (f : Formula) → depth_of f ≤ 128 → most_open 0 ts ≤ 128 → IsTooDeep ts f → ⊥
-not_deep ts f d o (inl h) = absurd (omega (arith, d, h))
-not_deep ts f d o (inr h) = absurd (omega (arith, o, h))
 
 no_formula_fault : (atoms : List (List ℕ)) (ts : List Lexeme) (f : Formula) (r t o : Bool) (k : TextKind) → IsRead atoms ts f →
     r ≡ false → t ≡ false → o ≡ false → IsFormulaFault atoms ts r t o k → ⊥

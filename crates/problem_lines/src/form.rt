@@ -6,11 +6,11 @@ ghost use Rattle.problem_lines.specs.Forms.{form_of, atoms_form, agent_form, tim
 ghost use Rattle.problem_lines.specs.Numerals.{is_numeral, times_cap, value_after};
 ghost use Rattle.problem_lines.specs.Views.{IsForm};
 
-use formulas::is_plain_name;
+use formulas::{TIMES_LIMIT, is_plain_name};
 use line_tokens::Token;
 
 /// Where counting how often an agent counts ends: one more than all agents may count together.
-pub const TIMES_CAP: u32 = 33;
+pub const TIMES_CAP: u32 = TIMES_LIMIT + 1;
 
 /// What a line of a problem text says, by its tokens.
 #[derive(Clone, Copy, Debug)]

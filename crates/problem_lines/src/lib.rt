@@ -1,4 +1,4 @@
-// The lines of a problem text, each by itself: its comment, and what its tokens say.
+//! The lines of a problem text, each by itself: its comment, and what its tokens say.
 #![tactic(auto)]
 
 mod comment;

@@ -6,6 +6,7 @@ use Rattle.std.proofs.lemmas.Bool.Decides.{nat_tests}
 use Rattle.formulas.specs.Formulas.{nodes_of}
 use Rattle.formulas.specs.Names.{is_name, is_plain_name, is_reserved}
 use Rattle.formulas.specs.declared.formula.Formula.{Formula}
+use Rattle.formulas.specs.Limits.{agent_limit, ask_limit, name_limit, node_limit, times_limit}
 use Rattle.line_tokens.specs.Lexemes.{Lexeme, word, colon, lexemes_of}
 use Rattle.problem_lines.specs.Lines.{content_of}
 use Rattle.formula_grammar.specs.Readings.{IsRead}
@@ -16,7 +17,7 @@ use Rattle.problem_lines.specs.Forms.{Form, blank, declaration, condition, belie
 use Rattle.problem_lines.specs.Numerals.{is_numeral, value_after}
 use Rattle.problem_reading.specs.declared.said.Said.{Said}
 use Rattle.problem_reading.specs.declared.said.Said.TheVariants.{Nothing, Names, Condition, Belief, Query}
-use Rattle.problem_reading.specs.Drafts.{Draft, size_of, constraint_size, other_size, total_times}
+use Rattle.problem_reading.specs.Drafts.{Draft, size_of, constraint_size, other_size, total_times, is_long}
 use Rattle.problem_reading.specs.Faults.{line_form, is_agent}
 use Rattle.problem_reading.specs.Fitting.{Fits}
 use Rattle.problem_reading.specs.Saying.{IsSaid, Says}
@@ -96,22 +97,22 @@ two_false : (a b : Bool) → (a || b) ≡ false → (a ≡ false) × (b ≡ fals
 two_false true b h = absurd (cc)
 two_false false b h = (refl, h)
 
-named : (name : List ℕ) → is_plain_name name ≡ true → is_reserved name ≡ false → nat_lt 64 (length name) ≡ false → is_name name ≡ true
-named name plain free short = let few : nat_le (length name) 64 ≡ true = grind (arith, nat_tests) in grind (arith, few)
+named : (name : List ℕ) → is_plain_name name ≡ true → is_reserved name ≡ false → is_long name ≡ false → is_name name ≡ true
+named name plain free short = let few : nat_le (length name) name_limit ≡ true = grind (arith, nat_tests) in grind (arith, few)
 
 fits_form : (d : Draft) (form : Form) (said : Said) → FormOk form → IsSaid d form said → Fits d said
 fits_form d blank Nothing ok h = tt
 fits_form d (declaration names) (Names atoms) ok h = omega (arith, ap length h.3, length-append d.atoms names)
 fits_form d (condition ts) (Condition f) ok h =
-    record { nodes = omega (arith, nodes_read d.atoms ts f h.0, one_bound 4096 (other_size d.agents d.asks + size_of ts) h.2); within = within_read d.atoms ts f h.0 }
+    record { nodes = omega (arith, nodes_read d.atoms ts f h.0, one_bound node_limit (other_size d.agents d.asks + size_of ts) h.2); within = within_read d.atoms ts f h.0 }
 fits_form d (belief name times ts) (Belief agent) ok h =
     let all = two_false _ _ h.3 in
     let most = two_false _ _ all.0 in
     let few = two_false _ _ most.0 in
     record {
-      room = one_bound 32 (length d.agents + 1) few.0;
-      times = omega (arith, h.5, one_bound 32 (total_times d.agents + times) most.1);
-      nodes = omega (arith, nodes_read d.atoms ts agent.base h.0, one_bound 4096 (constraint_size d.constraint + other_size d.agents d.asks + size_of ts) all.1);
+      room = one_bound agent_limit (length d.agents + 1) few.0;
+      times = omega (arith, h.5, one_bound times_limit (total_times d.agents + times) most.1);
+      nodes = omega (arith, nodes_read d.atoms ts agent.base h.0, one_bound node_limit (constraint_size d.constraint + other_size d.agents d.asks + size_of ts) all.1);
       within = within_read d.atoms ts agent.base h.0;
       counts = omega (arith, h.5, ok.0);
       legal = ap is_name h.4 ∙ named name ok.1 h.1 few.1;
@@ -120,8 +121,8 @@ fits_form d (belief name times ts) (Belief agent) ok h =
 fits_form d (query ts) (Query f) ok h =
     let both = two_false _ _ h.1 in
     record {
-      room = one_bound 16 (length d.asks + 1) both.0;
-      nodes = omega (arith, nodes_read d.atoms ts f h.0, one_bound 4096 (constraint_size d.constraint + other_size d.agents d.asks + size_of ts) both.1);
+      room = one_bound ask_limit (length d.asks + 1) both.0;
+      nodes = omega (arith, nodes_read d.atoms ts f h.0, one_bound node_limit (constraint_size d.constraint + other_size d.agents d.asks + size_of ts) both.1);
       within = within_read d.atoms ts f h.0;
     }
 fits_form d form said ok h = absurd h

@@ -7,6 +7,8 @@ use Rattle.std.proofs.lemmas.List.Folds.{list_any-append, list_all-append}
 use Rattle.std.proofs.lemmas.Slice.Eq.{bytes_eq-Decides}
 use Rattle.formulas.specs.Names.{is_name, is_plain_name, is_reserved, are_distinct, are_names}
 use Rattle.formulas.proofs.NameViews.{names_added}
+use Rattle.formulas.specs.Limits.{atom_limit, name_limit}
+use Rattle.problem_reading.specs.Drafts.{is_long}
 use Rattle.line_tokens.specs.Lexemes.{Lexeme, word, bang, ampersand, bar, arrow, both_arrow, open_bracket, close_bracket, colon, stray}
 use Rattle.problem_lines.specs.Forms.{is_name_token, token_word, words_of}
 
@@ -67,10 +69,10 @@ absent_on names after name true e h = let both : true ≡ false = sym h ∙ dist
 -- what may be added to names
 pub record MayFollow (before : List (List ℕ)) (name : List ℕ) : Type 0 where
   pub legal : is_name name ≡ true
-  pub room : length before < 32
+  pub room : length before < atom_limit
   pub absent : list_any (bytes_eq name) before ≡ false
 
-pub may_follow : (before after all : List (List ℕ)) (name : List ℕ) → before ++ name ∷ after ≡ all → are_names all ≡ true → length all ≤ 32 → MayFollow before name
+pub may_follow : (before after all : List (List ℕ)) (name : List ℕ) → before ++ name ∷ after ≡ all → are_names all ≡ true → length all ≤ atom_limit → MayFollow before name
 may_follow before after all name e are few =
     let known = both_true (list_all is_name (before ++ name ∷ after)) (are_distinct (before ++ name ∷ after)) (ap are_names e ∙ are) in
     let here = both_true (list_all is_name before) (list_all is_name (name ∷ after)) (sym (list_all-append is_name before (name ∷ after)) ∙ known.0) in
@@ -117,11 +119,11 @@ plain_token stray h = absurd (cc)
 
 -- names by what is tested of each
 pub all_names : (ts : List Lexeme) → list_all is_name_token ts ≡ true → list_any is_reserved (words_of ts) ≡ false →
-    list_any (λ n. nat_lt 64 (length n)) (words_of ts) ≡ false → list_all is_name (words_of ts) ≡ true
+    list_any is_long (words_of ts) ≡ false → list_all is_name (words_of ts) ≡ true
 all_names [] h i j = refl
 all_names (t ∷ ts) h i j =
     let plain : is_plain_name (token_word t) ≡ true = plain_token t (grind arith) in
-    let short : nat_le (length (token_word t)) 64 ≡ true = grind (arith, nat_tests) in
+    let short : nat_le (length (token_word t)) name_limit ≡ true = grind (arith, nat_tests) in
     grind (arith, plain, short, all_names ts (grind arith) (grind arith) (grind arith))
 
 pub word_count : (ts : List Lexeme) → length (words_of ts) ≡ length ts

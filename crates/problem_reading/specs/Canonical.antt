@@ -1,5 +1,6 @@
 -- Which lines are written as in a canonical text.
 use Rattle.std.specs.Prelude.{◌≡◌, ℕ, List, length, drop}
+use Rattle.formulas.specs.Names.{names_of}
 use Rattle.problem_reading.specs.declared.said.Said.{Said}
 use Rattle.problem_reading.specs.declared.said.Said.TheVariants.{Nothing, Names, Condition, Belief, Query}
 use Rattle.problem_reading.specs.Drafts.{Draft}
@@ -11,6 +12,6 @@ use Rattle.profile_text.specs.ProblemText.{agent_line, ask_line, atoms_line, con
 abbrev pub IsWritten : Draft → List ℕ → Said → Type 0
 IsWritten d line Nothing = ⊥
 IsWritten d line (Names atoms) = line ≡ atoms_line (drop (length d.atoms) atoms)
-IsWritten d line (Condition f) = line ≡ constraint_line d.atoms f
-IsWritten d line (Belief agent) = line ≡ agent_line d.atoms agent
-IsWritten d line (Query f) = line ≡ ask_line d.atoms f
+IsWritten d line (Condition f) = line ≡ constraint_line (names_of d.atoms) f
+IsWritten d line (Belief agent) = line ≡ agent_line (names_of d.atoms) agent
+IsWritten d line (Query f) = line ≡ ask_line (names_of d.atoms) f

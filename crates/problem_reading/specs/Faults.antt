@@ -2,7 +2,7 @@
 use Rattle.std.specs.Prelude.{◌≡◌, ℕ, Bool, true, false, not, ◌||◌, List, is_some}
 use Rattle.std.specs.List.{list_any}
 use Rattle.std.specs.Str.{bytes_eq}
-use Rattle.formulas.specs.Names.{is_reserved, are_distinct}
+use Rattle.formulas.specs.Names.{is_reserved, are_distinct, names_of}
 use Rattle.formulas.specs.declared.formula.Formula.{Formula}
 use Rattle.line_tokens.specs.Bytes.{is_bad}
 use Rattle.line_tokens.specs.Lexemes.{Lexeme, lexemes_of}
@@ -41,7 +41,7 @@ IsNameFault reserved twice over _ = ⊥
 
 -- an atom that is declared twice on the line, or before it
 abbrev pub declares_twice : Draft → List (List ℕ) → Bool
-declares_twice d names = not (are_distinct names) || list_any (λ name. list_any (bytes_eq name) d.atoms) names
+declares_twice d names = not (are_distinct names) || list_any (λ name. list_any (bytes_eq name) (names_of d.atoms)) names
 
 -- an agent of this name is there
 abbrev pub is_agent : Draft → List ℕ → Bool
@@ -52,9 +52,9 @@ abbrev pub IsFormFault : Draft → Form → TextKind → Type 0
 IsFormFault d blank kind = ⊥
 IsFormFault d unknown kind = kind ≡ BadLine
 IsFormFault d (declaration names) kind = IsNameFault (list_any is_reserved names) (declares_twice d names) (declares_too_many d names) kind
-IsFormFault d (condition ts) kind = IsFormulaFault d.atoms ts false (is_some d.constraint) (constrains_too_much d ts) kind
-IsFormFault d (belief name times ts) kind = IsFormulaFault d.atoms ts (is_reserved name) (is_agent d name) (believes_too_much d name times ts) kind
-IsFormFault d (query ts) kind = IsFormulaFault d.atoms ts false false (asks_too_much d ts) kind
+IsFormFault d (condition ts) kind = IsFormulaFault (names_of d.atoms) ts false (is_some d.constraint) (constrains_too_much d ts) kind
+IsFormFault d (belief name times ts) kind = IsFormulaFault (names_of d.atoms) ts (is_reserved name) (is_agent d name) (believes_too_much d name times ts) kind
+IsFormFault d (query ts) kind = IsFormulaFault (names_of d.atoms) ts false false (asks_too_much d ts) kind
 
 -- the form of a line
 abbrev pub line_form : List ℕ → Form

@@ -1,7 +1,7 @@
 -- What a line without a fault adds.
 use Rattle.std.specs.Prelude.{◌≡◌, ℕ, false, List, [], ◌∷◌, ◌++◌, Some, is_some}
 use Rattle.std.specs.List.{list_any}
-use Rattle.formulas.specs.Names.{is_reserved}
+use Rattle.formulas.specs.Names.{is_reserved, names_of}
 use Rattle.line_tokens.specs.Bytes.{is_bad}
 use Rattle.formula_grammar.specs.Readings.{IsRead}
 use Rattle.problem_lines.specs.Lines.{content_of}
@@ -16,11 +16,11 @@ abbrev pub IsSaid : Draft → Form → Said → Type 0
 IsSaid d blank Nothing = Unit {0}
 IsSaid d (declaration names) (Names atoms) =
     (list_any is_reserved names ≡ false) × (declares_twice d names ≡ false) × (declares_too_many d names ≡ false) × (atoms ≡ d.atoms ++ names)
-IsSaid d (condition ts) (Condition f) = IsRead d.atoms ts f × (is_some d.constraint ≡ false) × (constrains_too_much d ts ≡ false)
+IsSaid d (condition ts) (Condition f) = IsRead (names_of d.atoms) ts f × (is_some d.constraint ≡ false) × (constrains_too_much d ts ≡ false)
 IsSaid d (belief name times ts) (Belief agent) =
-    IsRead d.atoms ts agent.base × (is_reserved name ≡ false) × (is_agent d name ≡ false) × (believes_too_much d name times ts ≡ false)
+    IsRead (names_of d.atoms) ts agent.base × (is_reserved name ≡ false) × (is_agent d name ≡ false) × (believes_too_much d name times ts ≡ false)
     × (agent.name ≡ name) × (agent.times ≡ times)
-IsSaid d (query ts) (Query f) = IsRead d.atoms ts f × (asks_too_much d ts ≡ false)
+IsSaid d (query ts) (Query f) = IsRead (names_of d.atoms) ts f × (asks_too_much d ts ≡ false)
 IsSaid d form said = ⊥
 
 -- what is declared after it

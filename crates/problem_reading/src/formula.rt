@@ -1,4 +1,5 @@
 ghost use Rattle.std.specs.Prelude.{◌≡◌, IfOk, IfErr, true, false, map};
+ghost use Rattle.formulas.specs.Names.{names_of};
 ghost use Rattle.line_tokens.specs.Lexemes.{lexeme_of};
 ghost use Rattle.formula_grammar.specs.Readings.{IsRead};
 ghost use Rattle.problem_reading.specs.Stops.{IsFormulaStop};
@@ -19,8 +20,8 @@ pub fn line_formula(
     twice: bool,
     over: bool,
 ) -> Result<Formula, LineStop>
-    ensures read { IfOk result (λ f. IsRead atoms.now (map lexeme_of tokens.now) f × (reserved ≡ false) × (twice ≡ false) × (over ≡ false)) }
-    ensures stop { IfErr result (IsFormulaStop atoms.now (map lexeme_of tokens.now) reserved twice over) }
+    ensures read { IfOk result (λ f. IsRead (names_of atoms.now) (map lexeme_of tokens.now) f × (reserved ≡ false) × (twice ≡ false) × (over ≡ false)) }
+    ensures stop { IfErr result (IsFormulaStop (names_of atoms.now) (map lexeme_of tokens.now) reserved twice over) }
 {
     match read_tokens(alloc, tokens, atoms) {
         Err(FormulaStop::NoMemory) => Err(LineStop::NoMemory),

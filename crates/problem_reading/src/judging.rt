@@ -1,5 +1,6 @@
 ghost use Rattle.std.specs.Prelude.{◌≡◌, ◌+◌, ◌≤◌, ℕ, IfOk, IfErr, true, min, nat_lt, map};
 ghost use Rattle.std.specs.List.{list_all};
+ghost use Rattle.formulas.specs.Limits.{node_limit, times_limit};
 ghost use Rattle.line_tokens.specs.Lexemes.{lexeme_of};
 ghost use Rattle.problem_lines.specs.Forms.{Form, condition, belief, query, declaration, is_name_token, words_of};
 ghost use Rattle.problem_lines.specs.Numerals.{times_cap};
@@ -12,13 +13,15 @@ ghost use Rattle.problem_reading.specs.Views.{draft_of};
 
 use crate::declarations::Declarations;
 use crate::formula::line_formula;
-use crate::limits::{AGENT_LIMIT, ASK_LIMIT, ATOM_LIMIT, NAME_LIMIT, NODE_LIMIT, TIMES_LIMIT};
 use crate::names::{any_declared, any_long, any_reserved, are_distinct, extended};
 use crate::said::Said;
 use crate::stop::{LineStop, TextKind};
 use edge::NoMemory;
 use formula_grammar::node_count;
-use formulas::{Atoms, Formula, is_reserved};
+use formulas::{
+    AGENT_LIMIT, ASK_LIMIT, ATOM_LIMIT, Atoms, Formula, NAME_LIMIT, NODE_LIMIT, TIMES_LIMIT,
+    is_reserved,
+};
 use line_tokens::{Token, tokens};
 use merge_model::{Agent, Sequence};
 use problem_lines::{LineForm, content, form_of};
@@ -26,8 +29,8 @@ use std::alloc::Global;
 
 /// Whether a formula of these tokens has too many nodes beside those that are there.
 fn is_over(tokens: &[Token], used: u64) -> bool
-    requires few { used ≤ 4096 }
-    ensures { result ≡ nat_lt 4096 (used + size_of (map lexeme_of tokens.now)) }
+    requires few { used ≤ node_limit }
+    ensures { result ≡ nat_lt node_limit (used + size_of (map lexeme_of tokens.now)) }
 {
     node_count(tokens) as u64 > NODE_LIMIT - used
 }
@@ -71,9 +74,9 @@ fn is_agent(declared: &Declarations, name: &str) -> bool
 /// Whether agents that count so often count too often together with one more, whose times are
 /// counted up to one more than the most.
 fn is_too_often(used: u32, times: u32) -> bool
-    requires few { used ≤ 32 }
+    requires few { used ≤ times_limit }
     requires capped { times ≤ times_cap }
-    ensures { (n : ℕ) → times ≡ min n times_cap → result ≡ nat_lt 32 (used + n) }
+    ensures { (n : ℕ) → times ≡ min n times_cap → result ≡ nat_lt times_limit (used + n) }
 {
     used + times > TIMES_LIMIT
 }

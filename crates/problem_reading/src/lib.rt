@@ -1,11 +1,10 @@
-// Reading a problem text line by line, with the least fault of each line.
+//! Reading a problem text line by line, with the least fault of each line.
 #![tactic(auto)]
 
 mod declarations;
 mod ending;
 mod formula;
 mod judging;
-mod limits;
 mod lines;
 mod names;
 mod past;

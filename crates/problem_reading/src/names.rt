@@ -1,13 +1,14 @@
-ghost use Rattle.std.specs.Prelude.{◌≡◌, [], ◌∷◌, ◌++◌, ◌+◌, ◌≤◌, true, false, nat_lt, length, map, IfOk, OnOk, OnErr};
+ghost use Rattle.std.specs.Prelude.{◌≡◌, [], ◌∷◌, ◌++◌, ◌+◌, ◌≤◌, true, false, length, map, IfOk, OnOk, OnErr};
 ghost use Rattle.std.specs.List.{list_any, list_all};
 ghost use Rattle.std.specs.Str.{bytes_eq};
-ghost use Rattle.formulas.specs.Names.{is_reserved, are_distinct, are_names};
+ghost use Rattle.formulas.specs.Limits.{atom_limit};
+ghost use Rattle.formulas.specs.Names.{is_reserved, are_distinct, are_names, names_of};
 ghost use Rattle.line_tokens.specs.Lexemes.{lexeme_of};
 ghost use Rattle.problem_lines.specs.Forms.{words_of};
+ghost use Rattle.problem_reading.specs.Drafts.{is_long};
 
-use crate::limits::NAME_LIMIT;
 use edge::NoMemory;
-use formulas::{Atoms, is_reserved};
+use formulas::{Atoms, NAME_LIMIT, is_reserved};
 use indexmap::IndexSet;
 use line_tokens::Token;
 use problem_lines::token_word;
@@ -85,9 +86,9 @@ pub fn any_reserved(tokens: &[Token]) -> bool
     false
 }
 
-/// Whether a word of the tokens has more than 64 bytes.
+/// Whether a word of the tokens is too long for a name.
 pub fn any_long(tokens: &[Token]) -> bool
-    ensures { result ≡ list_any (λ name. nat_lt 64 (length name)) (words_of (map lexeme_of tokens.now)) }
+    ensures { result ≡ list_any is_long (words_of (map lexeme_of tokens.now)) }
 {
     for token in tokens {
         if token_word(*token).len() > NAME_LIMIT {
@@ -99,7 +100,7 @@ pub fn any_long(tokens: &[Token]) -> bool
 
 /// Whether an atom has this name.
 fn is_declared(atoms: &Atoms, name: &str) -> bool
-    ensures { result ≡ list_any (bytes_eq name.now) atoms.now }
+    ensures { result ≡ list_any (bytes_eq name.now) (names_of atoms.now) }
 {
     match atoms.number_of(name) {
         None => false,
@@ -109,7 +110,7 @@ fn is_declared(atoms: &Atoms, name: &str) -> bool
 
 /// Whether a word of the tokens is the name of an atom.
 pub fn any_declared(atoms: &Atoms, tokens: &[Token]) -> bool
-    ensures { result ≡ list_any (λ name. list_any (bytes_eq name) atoms.now) (words_of (map lexeme_of tokens.now)) }
+    ensures { result ≡ list_any (λ name. list_any (bytes_eq name) (names_of atoms.now)) (words_of (map lexeme_of tokens.now)) }
 {
     for token in tokens {
         if is_declared(atoms, token_word(*token)) {
@@ -133,8 +134,8 @@ fn copied_atoms(alloc: Global, atoms: &Atoms) -> Result<Atoms, NoMemory>
 
 /// The atoms with the words of the tokens after them; `NoMemory` for want of memory.
 pub fn extended(alloc: Global, atoms: &Atoms, tokens: &[Token]) -> Result<Atoms, NoMemory>
-    requires few { length (atoms.now ++ words_of (map lexeme_of tokens.now)) ≤ 32 }
-    requires names { are_names (atoms.now ++ words_of (map lexeme_of tokens.now)) ≡ true }
+    requires few { length (atoms.now ++ words_of (map lexeme_of tokens.now)) ≤ atom_limit }
+    requires names { are_names (names_of atoms.now ++ words_of (map lexeme_of tokens.now)) ≡ true }
     ensures { IfOk result (λ more. more ≡ atoms.now ++ words_of (map lexeme_of tokens.now)) }
 {
     let mut more = copied_atoms(alloc, atoms)?;

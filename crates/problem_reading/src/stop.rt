@@ -18,7 +18,8 @@ pub enum TextKind {
     Twice,
     /// A limit on atoms, agents, times, nodes, queries or the bytes of a name is passed.
     TooMany,
-    /// More than 128 brackets are open at one place of the formula, or its depth is over 128.
+    /// More than `OPEN_LIMIT` brackets are open at one place of the formula, or its depth is over
+    /// `DEPTH_LIMIT`.
     TooDeep,
     /// No atom is declared at the end.
     NoAtoms,

@@ -11,6 +11,7 @@ use Rattle.formulas.specs.Names.{is_name, is_reserved, are_distinct, are_names}
 use Rattle.formulas.specs.Formulas.{nodes_of}
 use Rattle.formulas.specs.declared.formula.Formula.{Formula}
 use Rattle.formulas.proofs.NameViews.{list_any-map}
+use Rattle.formulas.specs.Limits.{agent_limit, ask_limit, atom_limit, node_limit, times_limit}
 use Rattle.formula_text.specs.CanonicalText.{formula_text}
 use Rattle.line_tokens.specs.Bytes.{is_bad}
 use Rattle.line_tokens.specs.Lexemes.{Lexeme, lexemes_of}
@@ -26,7 +27,7 @@ use Rattle.problem_lines.specs.Lines.{content_of, lines_of}
 use Rattle.problem_lines.specs.Forms.{Form, declaration, condition, belief, query, form_of}
 use Rattle.problem_reading.specs.declared.said.Said.{Said}
 use Rattle.problem_reading.specs.declared.said.Said.TheVariants.{Names, Condition, Belief, Query}
-use Rattle.problem_reading.specs.Drafts.{Draft, empty_draft, other_size, total_times, size_of}
+use Rattle.problem_reading.specs.Drafts.{Draft, empty_draft, other_size, total_times, size_of, is_long}
 use Rattle.problem_reading.specs.Saying.{IsSaid, Says, Adds}
 use Rattle.problem_reading.specs.Spelling.{Declares, no_lines, one_more, Spelled}
 use Rattle.profile_text.specs.ProblemText.{agent_line, ask_line, atoms_line, constraint_line, problem_lines, problem_text}
@@ -63,14 +64,14 @@ middle_at (y ∷ front) x rest =
     let more = middle_at front x rest in
     (omega (arith, more.0), more.1, ap (λ l. y ∷ l) more.2)
 
-short_name : (name : List ℕ) → is_name name ≡ true → nat_lt 64 (length name) ≡ false
+short_name : (name : List ℕ) → is_name name ≡ true → is_long name ≡ false
 short_name name h = grind (arith, nat_tests, h)
 
-short_names : (names : List (List ℕ)) → list_all is_name names ≡ true → list_any (λ name. nat_lt 64 (length name)) names ≡ false
+short_names : (names : List (List ℕ)) → list_all is_name names ≡ true → list_any is_long names ≡ false
 short_names [] h = refl
 short_names (name ∷ names) h =
-    let rest : list_any (λ n. nat_lt 64 (length n)) names ≡ false = short_names names (grind (arith, h)) in
-    let here : nat_lt 64 (length name) ≡ false = short_name name (grind (arith, h)) in
+    let rest : list_any is_long names ≡ false = short_names names (grind (arith, h)) in
+    let here : is_long name ≡ false = short_name name (grind (arith, h)) in
     grind (arith, rest, here)
 
 free_names : (names : List (List ℕ)) → list_all is_name names ≡ true → list_any is_reserved names ≡ false
@@ -127,14 +128,14 @@ module _ (p : Problem) where
       let h = known in
       let distinct : are_distinct names ≡ true = grind (arith, h) in
       let elsewhere : list_any (λ name. list_any (bytes_eq name) []) names ≡ false = none_there names in
-      let short : list_any (λ name. nat_lt 64 (length name)) names ≡ false = short_names names legal in
-      let few : nat_lt 32 (0 + length names) ≡ false = grind (arith, nat_tests, p.limits.few_atoms) in
+      let short : list_any is_long names ≡ false = short_names names legal in
+      let few : nat_lt atom_limit (0 + length names) ≡ false = grind (arith, nat_tests, p.limits.few_atoms) in
       (free_names names legal, ap (λ t. not t || list_any (λ name. list_any (bytes_eq name) []) names) distinct ∙ elsewhere, grind (arith, few, short), refl)
 
   constraint_said : IsSaid (record { atoms = names; constraint = None; agents = []; asks = [] }) (condition (text p.constraint)) (Condition p.constraint)
   constraint_said =
       let size : size_of (text p.constraint) ≡ nodes_of p.constraint = size_is p.constraint p.limits.constraint_within in
-      let few : nat_lt 4096 (0 + 0 + size_of (text p.constraint)) ≡ false = grind (arith, nat_tests, size, p.limits.few_nodes) in
+      let few : nat_lt node_limit (0 + 0 + size_of (text p.constraint)) ≡ false = grind (arith, nat_tests, size, p.limits.few_nodes) in
       (read p.constraint p.limits.constraint_within, refl, few)
 
   abbrev first_lines : List (List ℕ)
@@ -187,15 +188,15 @@ module _ (p : Problem) where
         let count : length p.agents ≡ length done + suc (length rest) = ap length are ∙ length-append done (agent ∷ rest) in
         let free : is_reserved agent.name ≡ false = let h = named.0 in grind (arith, h) in
         let fresh : list_any (λ a. bytes_eq agent.name a.name) done ≡ false = sym (list_any-map (bytes_eq agent.name) (λ a. a.name) done) ∙ named.1 in
-        let few : nat_lt 32 (length done + 1) ≡ false = grind (arith, nat_tests, count, p.limits.few_agents) in
-        let short : nat_lt 64 (length agent.name) ≡ false = short_name agent.name named.0 in
-        let seldom : nat_lt 32 (total_times done + agent.times) ≡ false = grind (arith, nat_tests, times_are, p.limits.few_times) in
-        let small : nat_lt 4096 (nodes_of p.constraint + other_size done [] + size_of (text agent.base)) ≡ false = grind (arith, nat_tests, size, nodes_are, p.limits.few_nodes) in
+        let few : nat_lt agent_limit (length done + 1) ≡ false = grind (arith, nat_tests, count, p.limits.few_agents) in
+        let short : is_long agent.name ≡ false = short_name agent.name named.0 in
+        let seldom : nat_lt times_limit (total_times done + agent.times) ≡ false = grind (arith, nat_tests, times_are, p.limits.few_times) in
+        let small : nat_lt node_limit (nodes_of p.constraint + other_size done [] + size_of (text agent.base)) ≡ false = grind (arith, nat_tests, size, nodes_are, p.limits.few_nodes) in
         (read agent.base within, free, fresh, grind (arith, few, short, seldom, small), refl, refl)
 
     agent_added : Adds (of_agents done) (agent_line names agent) (of_agents (done ++ agent ∷ []))
     agent_added =
-        let once : agent.times ≤ 32 = omega (arith, times_are, p.limits.few_times) in (
+        let once : agent.times ≤ times_limit = omega (arith, times_are, p.limits.few_times) in (
           Belief agent,
           says (of_agents done) (agent_line names agent) (belief agent.name agent.times (text agent.base)) (Belief agent) agent_stands.0 agent_stands.1
               (agent_form_of names agent named.0 counts once) agent_said,
@@ -238,8 +239,8 @@ module _ (p : Problem) where
     ask_said =
         let size : size_of (text ask) ≡ nodes_of ask = size_is ask ask_within in
         let count : length p.asks ≡ length done + suc (length rest) = ap length are ∙ length-append done (ask ∷ rest) in
-        let few : nat_lt 16 (length done + 1) ≡ false = grind (arith, nat_tests, count, p.limits.few_asks) in
-        let small : nat_lt 4096 (nodes_of p.constraint + other_size p.agents done + size_of (text ask)) ≡ false = grind (arith, nat_tests, size, asked_nodes, p.limits.few_nodes) in
+        let few : nat_lt ask_limit (length done + 1) ≡ false = grind (arith, nat_tests, count, p.limits.few_asks) in
+        let small : nat_lt node_limit (nodes_of p.constraint + other_size p.agents done + size_of (text ask)) ≡ false = grind (arith, nat_tests, size, asked_nodes, p.limits.few_nodes) in
         (read ask ask_within, grind (arith, few, small))
 
     ask_added : Adds (of_asks done) (ask_line names ask) (of_asks (done ++ ask ∷ []))

@@ -1,5 +1,6 @@
 -- The canonical text of a problem.
 use Rattle.std.specs.Prelude.{ℕ, ◌==◌, if◌then◌else◌, List, [], ◌∷◌, ◌++◌, map, codes, decimal}
+use Rattle.formulas.specs.Names.{AtomList, names_of}
 use Rattle.formulas.specs.declared.formula.Formula.{Formula}
 use Rattle.formula_text.specs.CanonicalText.{formula_text}
 use Rattle.merge_model.specs.declared.agent.Agent.{Agent}
@@ -11,8 +12,8 @@ spaced_names [] = []
 spaced_names (name ∷ names) = codes " " ++ name ++ spaced_names names
 
 -- the line that declares the atoms
-abbrev pub atoms_line : List (List ℕ) → List ℕ
-atoms_line names = codes "atoms" ++ spaced_names names
+abbrev pub atoms_line : AtomList → List ℕ
+atoms_line atoms = codes "atoms" ++ spaced_names (names_of atoms)
 
 -- the line of the constraint, over atoms of these names
 abbrev pub constraint_line : List (List ℕ) → Formula → List ℕ
@@ -33,8 +34,9 @@ ask_line names formula = codes "ask " ++ formula_text names formula
 -- the lines of a problem: its atoms, its constraint, its agents and its queries
 abbrev pub problem_lines : Problem → List (List ℕ)
 problem_lines problem =
-    atoms_line problem.atoms ∷ constraint_line problem.atoms problem.constraint
-    ∷ (map (agent_line problem.atoms) problem.agents ++ map (ask_line problem.atoms) problem.asks)
+    let names = names_of problem.atoms in
+    atoms_line problem.atoms ∷ constraint_line names problem.constraint
+    ∷ (map (agent_line names) problem.agents ++ map (ask_line names) problem.asks)
 
 -- lines, each ended by a line feed
 abbrev pub lines_text : List (List ℕ) → List ℕ

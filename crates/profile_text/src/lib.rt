@@ -1,4 +1,4 @@
-// The canonical text of a problem, written.
+//! The canonical text of a problem, written.
 #![tactic(auto)]
 
 mod lines;

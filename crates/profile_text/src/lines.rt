@@ -1,5 +1,6 @@
 ghost use Rattle.std.specs.Prelude.{◌≡◌, ◌≤◌, ◌++◌, drop, length, IfOk, OnOk};
 ghost use Rattle.formulas.specs.Formulas.{width_of};
+ghost use Rattle.formulas.specs.Names.{names_of};
 ghost use Rattle.profile_text.specs.ProblemText.{agent_line, ask_line, atoms_line, constraint_line, times_text};
 
 use edge::NoMemory;
@@ -26,7 +27,7 @@ pub fn constraint_line(
     atoms: &Atoms,
 ) -> Result<Vec<u8>, NoMemory>
     requires { width_of constraint.now ≤ length atoms.now }
-    ensures { IfOk result (λ line. line.items ≡ constraint_line atoms.now constraint.now) }
+    ensures { IfOk result (λ line. line.items ≡ constraint_line (names_of atoms.now) constraint.now) }
 {
     let mut line = Vec::new(alloc);
     write_constraint(constraint, atoms, &mut line)?;
@@ -36,7 +37,7 @@ pub fn constraint_line(
 /// The line of an agent whose base is over these atoms; `NoMemory` for want of memory.
 pub fn agent_line(alloc: Global, agent: &Agent, atoms: &Atoms) -> Result<Vec<u8>, NoMemory>
     requires { width_of agent.now.base ≤ length atoms.now }
-    ensures { IfOk result (λ line. line.items ≡ agent_line atoms.now agent.now) }
+    ensures { IfOk result (λ line. line.items ≡ agent_line (names_of atoms.now) agent.now) }
 {
     let mut line = Vec::new(alloc);
     write_agent(agent, atoms, &mut line)?;
@@ -46,7 +47,7 @@ pub fn agent_line(alloc: Global, agent: &Agent, atoms: &Atoms) -> Result<Vec<u8>
 /// The line of a query over these atoms; `NoMemory` for want of memory.
 pub fn ask_line(alloc: Global, ask: &Formula, atoms: &Atoms) -> Result<Vec<u8>, NoMemory>
     requires { width_of ask.now ≤ length atoms.now }
-    ensures { IfOk result (λ line. line.items ≡ ask_line atoms.now ask.now) }
+    ensures { IfOk result (λ line. line.items ≡ ask_line (names_of atoms.now) ask.now) }
 {
     let mut line = Vec::new(alloc);
     write_ask(ask, atoms, &mut line)?;
@@ -54,7 +55,7 @@ pub fn ask_line(alloc: Global, ask: &Formula, atoms: &Atoms) -> Result<Vec<u8>, 
 }
 
 /// Appends the line that declares the atoms from a number on, without its line feed.
-pub(crate) fn write_atoms(atoms: &Atoms, from: u32, into: &mut Vec<u8>) -> Result<(), NoMemory>
+pub fn write_atoms(atoms: &Atoms, from: u32, into: &mut Vec<u8>) -> Result<(), NoMemory>
     requires { from ≤ length atoms.now }
     ensures { OnOk result (into.new.items ≡ into.old.items ++ atoms_line (drop from atoms.now)) }
 {
@@ -67,22 +68,22 @@ pub(crate) fn write_atoms(atoms: &Atoms, from: u32, into: &mut Vec<u8>) -> Resul
 }
 
 /// Appends the line of a constraint without its line feed.
-pub(crate) fn write_constraint(
+pub fn write_constraint(
     constraint: &Formula,
     atoms: &Atoms,
     into: &mut Vec<u8>,
 ) -> Result<(), NoMemory>
     requires { width_of constraint.now ≤ length atoms.now }
-    ensures { OnOk result (into.new.items ≡ into.old.items ++ constraint_line atoms.now constraint.now) }
+    ensures { OnOk result (into.new.items ≡ into.old.items ++ constraint_line (names_of atoms.now) constraint.now) }
 {
     write_bytes(b"constraint ", into)?;
     write_formula(constraint, atoms, into)
 }
 
 /// Appends the line of an agent without its line feed.
-pub(crate) fn write_agent(agent: &Agent, atoms: &Atoms, into: &mut Vec<u8>) -> Result<(), NoMemory>
+pub fn write_agent(agent: &Agent, atoms: &Atoms, into: &mut Vec<u8>) -> Result<(), NoMemory>
     requires { width_of agent.now.base ≤ length atoms.now }
-    ensures { OnOk result (into.new.items ≡ into.old.items ++ agent_line atoms.now agent.now) }
+    ensures { OnOk result (into.new.items ≡ into.old.items ++ agent_line (names_of atoms.now) agent.now) }
 {
     write_bytes(b"agent ", into)?;
     write_bytes(agent.name.as_slice(), into)?;
@@ -104,9 +105,9 @@ fn write_times(times: u32, into: &mut Vec<u8>) -> Result<(), NoMemory>
 }
 
 /// Appends the line of a query without its line feed.
-pub(crate) fn write_ask(ask: &Formula, atoms: &Atoms, into: &mut Vec<u8>) -> Result<(), NoMemory>
+pub fn write_ask(ask: &Formula, atoms: &Atoms, into: &mut Vec<u8>) -> Result<(), NoMemory>
     requires { width_of ask.now ≤ length atoms.now }
-    ensures { OnOk result (into.new.items ≡ into.old.items ++ ask_line atoms.now ask.now) }
+    ensures { OnOk result (into.new.items ≡ into.old.items ++ ask_line (names_of atoms.now) ask.now) }
 {
     write_bytes(b"ask ", into)?;
     write_formula(ask, atoms, into)

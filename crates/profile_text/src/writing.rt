@@ -1,5 +1,6 @@
 ghost use Rattle.std.specs.Prelude.{◌≡◌, ◌≤◌, ◌++◌, length, map, All, codes, IfOk, OnOk, OnErr};
 ghost use Rattle.formulas.specs.Formulas.{width_of};
+ghost use Rattle.formulas.specs.Names.{names_of};
 ghost use Rattle.profile_text.specs.ProblemText.{agent_line, ask_line, atoms_line, constraint_line, lines_text, problem_text};
 
 use crate::lines::{write_agent, write_ask, write_atoms, write_constraint};
@@ -45,7 +46,7 @@ fn write_constraint_line(
     into: &mut Vec<u8>,
 ) -> Result<(), NoMemory>
     requires { width_of constraint.now ≤ length atoms.now }
-    ensures { OnOk result (into.new.items ≡ into.old.items ++ (constraint_line atoms.now constraint.now ++ codes "\n")) }
+    ensures { OnOk result (into.new.items ≡ into.old.items ++ (constraint_line (names_of atoms.now) constraint.now ++ codes "\n")) }
 {
     write_constraint(constraint, atoms, into)?;
     write_bytes(b"\n", into)
@@ -54,7 +55,7 @@ fn write_constraint_line(
 /// Appends the lines of the agents.
 fn write_agent_lines(agents: &[Agent], atoms: &Atoms, into: &mut Vec<u8>) -> Result<(), NoMemory>
     requires { All (λ agent. width_of agent.base ≤ length atoms.now) agents.now }
-    ensures { OnOk result (into.new.items ≡ into.old.items ++ lines_text (map (agent_line atoms.now) agents.now)) }
+    ensures { OnOk result (into.new.items ≡ into.old.items ++ lines_text (map (agent_line (names_of atoms.now)) agents.now)) }
 {
     for agent in agents {
         write_agent_line(agent, atoms, into)?;
@@ -65,7 +66,7 @@ fn write_agent_lines(agents: &[Agent], atoms: &Atoms, into: &mut Vec<u8>) -> Res
 /// Appends the line of an agent.
 fn write_agent_line(agent: &Agent, atoms: &Atoms, into: &mut Vec<u8>) -> Result<(), NoMemory>
     requires { width_of agent.now.base ≤ length atoms.now }
-    ensures { OnOk result (into.new.items ≡ into.old.items ++ (agent_line atoms.now agent.now ++ codes "\n")) }
+    ensures { OnOk result (into.new.items ≡ into.old.items ++ (agent_line (names_of atoms.now) agent.now ++ codes "\n")) }
 {
     write_agent(agent, atoms, into)?;
     write_bytes(b"\n", into)
@@ -74,7 +75,7 @@ fn write_agent_line(agent: &Agent, atoms: &Atoms, into: &mut Vec<u8>) -> Result<
 /// Appends the lines of the queries.
 fn write_ask_lines(asks: &[Formula], atoms: &Atoms, into: &mut Vec<u8>) -> Result<(), NoMemory>
     requires { All (λ ask. width_of ask ≤ length atoms.now) asks.now }
-    ensures { OnOk result (into.new.items ≡ into.old.items ++ lines_text (map (ask_line atoms.now) asks.now)) }
+    ensures { OnOk result (into.new.items ≡ into.old.items ++ lines_text (map (ask_line (names_of atoms.now)) asks.now)) }
 {
     for ask in asks {
         write_ask_line(ask, atoms, into)?;
@@ -85,7 +86,7 @@ fn write_ask_lines(asks: &[Formula], atoms: &Atoms, into: &mut Vec<u8>) -> Resul
 /// Appends the line of a query.
 fn write_ask_line(ask: &Formula, atoms: &Atoms, into: &mut Vec<u8>) -> Result<(), NoMemory>
     requires { width_of ask.now ≤ length atoms.now }
-    ensures { OnOk result (into.new.items ≡ into.old.items ++ (ask_line atoms.now ask.now ++ codes "\n")) }
+    ensures { OnOk result (into.new.items ≡ into.old.items ++ (ask_line (names_of atoms.now) ask.now ++ codes "\n")) }
 {
     write_ask(ask, atoms, into)?;
     write_bytes(b"\n", into)

@@ -7,13 +7,11 @@ use Rattle.std.proofs.lemmas.List.Sums.{sum_by-cons}
 use Rattle.clause_store.specs.declared.lit.Lit.{Lit}
 use Rattle.clause_store.specs.Lits.{rank_of, negated, same_lit, without, with_lit, joined, resolvent, IsBelow, Ascends, has, Includes}
 use Rattle.clause_store.proofs.Lits.{rank_lit}
+use Rattle.clause_store.proofs.Truths.{or_cases}
 use Rattle.watch_lists.specs.declared.entry.Entry.{Entry}
 use Rattle.watch_lists.specs.Trace.{value_of, entry_of, under, room_in, room_of, upto, AreApart, IsStacked, Place, places_of, Extends}
 use Rattle.solver_laws.specs.Ready.{IsFalseIn, Tops}
 use Rattle.std.specs.List.{AllByRecursion}
-
-pub or_cases : (a b : Bool) → a || b ≡ true → (a ≡ true) ⊎ (b ≡ true)
-or_cases a b h = grind arith
 
 pub or_left : (a b : Bool) → a ≡ true → a || b ≡ true
 or_left a b h = grind arith

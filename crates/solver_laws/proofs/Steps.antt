@@ -4,7 +4,8 @@ use Rattle.std.specs.Prelude.{Contains, slice_get}
 use Rattle.std.proofs.lemmas.Bool.{cases_eq}
 use Rattle.clause_store.specs.declared.lit.Lit.{Lit}
 use Rattle.clause_store.specs.Lits.{negated, same_lit, without, resolvent, Ascends, InRange, IsWithin, has}
-use Rattle.clause_store.proofs.Lits.{Ascends-resolvent}
+use Rattle.clause_store.proofs.Lits.{Ascends-resolvent, negated-twice}
+use Rattle.clause_store.proofs.Numbered.{some_clause}
 use Rattle.watch_lists.specs.declared.entry.Entry.{Entry}
 use Rattle.watch_lists.proofs.Scans.{contains_all}
 use Rattle.watch_lists.specs.Trace.{Trace, Attached, value_of, entry_of, under, room_in, room_of, upto, oldest, AreApart, IsStacked, IsTrace, IsComplete, IsFalsified, StandIn}
@@ -13,12 +14,6 @@ use Rattle.derivation_log.proofs.Steps.{comes_more}
 use Rattle.solver_laws.specs.Ready.{IsFalseIn, IsReason, IsJustified, Tops, IsLesson}
 use Rattle.std.specs.List.{AllByRecursion}
 use Rattle.solver_laws.proofs.Rooms.{each_map, each_resolvent, each_lacks, false_before, room_false, room_once, room_joined, tops_from, tops_lacks, decision_room, room_zero_each}
-
-some_inj : (c d : List Lit) → (let x : Option (List Lit) = Some c in let y : Option (List Lit) = Some d in x ≡ y) → c ≡ d
-some_inj c d h = cc
-
-negated-twice : (l : Lit) → negated (negated l) ≡ l
-negated-twice l = search rules
 
 -- what a reason of the newest entry is
 pub record Reason (watched : List Attached) (known : List (List Lit)) (es : List Entry) (e : Entry) (n : ℕ) (c : List Lit) : Type 0 where
@@ -29,7 +24,7 @@ pub record Reason (watched : List Attached) (known : List (List Lit)) (es : List
 pub reason_at : (watched : List Attached) (known : List (List Lit)) (es : List Entry) (e : Entry) (n : ℕ) (c : List Lit) → StandIn known watched → IsReason watched es e.lit e.reason → e.reason ≡ Some n → slice_get known n ≡ Some c → Reason watched known es e n c
 reason_at watched known es e n c st j r g =
     let one = subst (λ (o : Option ℕ). IsReason watched es e.lit o) r j in
-    let q : one.0 ≡ c = some_inj one.0 c (sym (contains_all (λ (a : Attached). slice_get known a.number ≡ Some a.clause) watched (record { number = n; clause = one.0 }) st one.1) ∙ g) in
+    let q : one.0 ≡ c = some_clause one.0 c (sym (contains_all (λ (a : Attached). slice_get known a.number ≡ Some a.clause) watched (record { number = n; clause = one.0 }) st one.1) ∙ g) in
     record {
       attached = subst (λ (x : List Lit). Contains watched (record { number = n; clause = x })) q one.1;
       has = subst (λ (x : List Lit). has e.lit x ≡ true) q one.2;
@@ -142,7 +137,7 @@ walk_reason known watched vars first low rest whole e chain c w two r =
 pub walk_start : (known : List (List Lit)) (watched : List Attached) (t : Trace) (first : ℕ) (c : List Lit) → StandIn known watched → IsJustified watched t.entries → IsTrace t → 1 ≤ t.level → IsComplete watched (upto (t.level - 1) t.entries) → IsFalsified watched t.entries first →
     slice_get known first ≡ Some c → Ascends c → InRange t.vars c → IsWalked known watched t.vars (upto (t.level - 1) t.entries) t.entries t.entries first [] c
 walk_start known watched t first c st j tr lv comp fal g a r =
-    let q : fal.0 ≡ c = some_inj fal.0 c (sym (contains_all (λ (x : Attached). slice_get known x.number ≡ Some x.clause) watched (record { number = first; clause = fal.0 }) st fal.1) ∙ g) in
+    let q : fal.0 ≡ c = some_clause fal.0 c (sym (contains_all (λ (x : Attached). slice_get known x.number ≡ Some x.clause) watched (record { number = first; clause = fal.0 }) st fal.1) ∙ g) in
     let z : room_of t.entries c ≡ 0 = subst (λ (x : List Lit). room_of t.entries x ≡ 0) q fal.2 in
     let two : 2 ≤ room_of (upto (t.level - 1) t.entries) c = contains_all (λ (x : Attached). 2 ≤ room_of (upto (t.level - 1) t.entries) x.clause) watched (record { number = first; clause = c }) comp (subst (λ (x : List Lit). Contains watched (record { number = first; clause = x })) q fal.1) in
     let s : t.level ≡ t.level - 1 + 1 = omega arith in

@@ -10,12 +10,13 @@ use Rattle.watch_lists.specs.declared.entry.Entry.{Entry}
 use Rattle.watch_lists.specs.Trace.{Trace, Attached, value_of, room_in, room_of, upto, IsStacked, Implies, Grows, Same, More, IsComplete, StandIn, Place, places_of, shorter, ExtendsAt, Extends}
 use Rattle.derivation_log.specs.Logs.{Log, known_of, clauses_of, learned_of, Follows, is_learned}
 use Rattle.derivation_log.specs.declared.step.Step.{Step}
-use Rattle.derivation_log.proofs.Steps.{sound_push, new_push, learned_push, clauses_push}
+use Rattle.derivation_log.proofs.Steps.{sound_push, new_push, learned_push, known_front}
 use Rattle.solver_laws.specs.Ready.{IsFalseIn, IsReason, IsJustified, DecidesOnly, IsReady, IsLog, AllFit}
 use Rattle.std.specs.List.{AllByRecursion}
 use Rattle.ternary.specs.Digits.{IsFit}
 use Rattle.solver_laws.proofs.Rooms.{room_false, room_without, contains_has, room_le, upto_whole, upto_upto, upto_extends}
 use Rattle.clause_store.proofs.Each.{each_at, each_of_index}
+use Rattle.clause_store.proofs.Numbered.{get_front, get_seam}
 
 implied_reason : (es : List Entry) (c : List Lit) (l : Lit) → Implies es c l → (has l c ≡ true) × AllByRecursion (IsFalseIn es) (without l c)
 implied_reason es c l i =
@@ -136,24 +137,14 @@ ready_back g w f n t k r h =
       below = λ j lt. (let m : j ≤ k = omega arith in subst (IsComplete w) (sym (upto_upto j k t.entries m)) (r.below j (omega arith)));
     }
 
--- more steps leave earlier clauses where they are
-get_more : (xs ys : List (List Lit)) (n : ℕ) (c : List Lit) → slice_get xs n ≡ Some c → slice_get (xs ++ ys) n ≡ Some c
-get_more [] ys n c h = absurd (cc)
-get_more (x ∷ xs) ys zero c h = h
-get_more (x ∷ xs) ys (suc n) c h = get_more xs ys n c h
-
-get_last : (xs : List (List Lit)) (c : List Lit) → slice_get (xs ++ c ∷ []) (length xs) ≡ Some c
-get_last [] c = refl
-get_last (x ∷ xs) c = get_last xs c
-
 pub known_push : (g : Log) (s : Step) → known_of (record g { steps = g.steps ++ s ∷ [] }) ≡ known_of g ++ s.clause ∷ []
-known_push g s = ap (λ (zs : List (List Lit)). g.main ++ zs) (clauses_push g.steps s) ∙ sym (append_assoc g.main (clauses_of g.steps) (s.clause ∷ []))
+known_push g s = known_front g (record g { steps = g.steps ++ s ∷ [] }) (s ∷ []) refl refl
 
 pub stand_more : (g : Log) (w : List Attached) (s : Step) → StandIn (known_of g) w → StandIn (known_of (record g { steps = g.steps ++ s ∷ [] })) w
-stand_more g w s st k d lt = subst (λ (zs : List (List Lit)). slice_get zs (get_or w k d).number ≡ Some (get_or w k d).clause) (sym (known_push g s)) (get_more (known_of g) (s.clause ∷ []) (get_or w k d).number (get_or w k d).clause (st k d lt))
+stand_more g w s st k d lt = subst (λ (zs : List (List Lit)). slice_get zs (get_or w k d).number ≡ Some (get_or w k d).clause) (sym (known_push g s)) (get_front (known_of g) (s.clause ∷ []) (get_or w k d).number (get_or w k d).clause (st k d lt))
 
 pub push_get : (g : Log) (s : Step) → slice_get (known_of (record g { steps = g.steps ++ s ∷ [] })) (length (known_of g)) ≡ Some s.clause
-push_get g s = subst (λ (zs : List (List Lit)). slice_get zs (length (known_of g)) ≡ Some s.clause) (sym (known_push g s)) (get_last (known_of g) s.clause)
+push_get g s = subst (λ (zs : List (List Lit)). slice_get zs (length (known_of g)) ≡ Some s.clause) (sym (known_push g s)) (get_seam (known_of g) s.clause)
 
 fit_push : (V : ℕ) (ss : List Step) (s : Step) → AllFit V ss → ((is_learned s.kind) ≡ true → IsFit V s.clause) → AllFit V (ss ++ s ∷ [])
 fit_push V [] s a f = (f, tt)

@@ -12,6 +12,7 @@ use Rattle.std.proofs.lemmas.Map.Steps.{length-le_from_distinct_below}
 use Rattle.clause_store.specs.declared.lit.Lit.{Lit}
 use Rattle.clause_store.proofs.Lits.{lit_ext}
 use Rattle.clause_store.specs.Lits.{InRange}
+use Rattle.clause_store.proofs.Truths.{or_cases}
 use Rattle.ternary.specs.Digits.{IsAbove, IsFamily, CountLaw}
 
 -- the digit of a sign
@@ -113,9 +114,6 @@ code_same (suc n) v V c d s a b w x e =
 code_nil : (n v : ℕ) → code n v [] ≡ 0
 code_nil zero v = refl
 code_nil (suc n) v = omega (arith, code_nil n (suc v))
-
-or_cases : (a b : Bool) → a || b ≡ true → (a ≡ true) ⊎ (b ≡ true)
-or_cases a b h = grind arith
 
 codes_below : (V q : ℕ) (cs : List (List Lit)) → list_any (eqb q) (map (code V 0) cs) ≡ true → q < 3 ^ V
 codes_below V q [] h = absurd (cc)

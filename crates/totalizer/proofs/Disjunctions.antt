@@ -4,14 +4,14 @@ use Rattle.std.specs.Prelude.{map, if◌then◌else◌}
 use Rattle.clause_store.specs.Lits.{positive_lit, sorted_clause, InRange, AreInRange}
 use Rattle.clause_store.specs.Clauses.{Clauses}
 use Rattle.clause_store.specs.Grew.{Grew}
-use Rattle.clause_store.specs.Truth.{Agree, clause_true, all_true}
-use Rattle.clause_store.specs.Extends.{Extends, Are, Always}
-use Rattle.clause_store.proofs.Truths.{AreInRange-append, all_true-append, and_left, and_right, and_both}
+use Rattle.clause_store.specs.Truth.{AreTrue, Agree, clause_true, all_true}
+use Rattle.clause_store.specs.Extends.{Extends, Always}
+use Rattle.clause_store.proofs.Truths.{all_true-append, and_left, and_right, and_both}
 use Rattle.clause_store.proofs.Blocks.{single}
-use Rattle.clause_store.proofs.Grows.{grew_none, grew_front, grew_next}
+use Rattle.clause_store.proofs.Grows.{grew_none, grew_front, grew_next, grew_vars}
+use Rattle.clause_store.proofs.Each.{each_append}
 use Rattle.totalizer.specs.Counter.{AreVarsWithin}
 use Rattle.totalizer.specs.Either.{any_of, lifts, needs_one, either_due, IsEither}
-use Rattle.totalizer.proofs.Steps.{grew_vars}
 use Rattle.totalizer.proofs.Law.{more_vars}
 use Rattle.totalizer.proofs.Sizes.{leaf_unary}
 
@@ -61,12 +61,12 @@ ups_is : (b : ℕ → Bool) (r : ℕ) (xs : List ℕ) → all_true b (map (lifts
 ups_is b r [] = step_none (b r)
 ups_is b r (x ∷ xs) = ap (λ z. (not (b x) || (b r || false)) && z) (ups_is b r xs) ∙ step_one (b x) (b r) (any_of b xs)
 
-pub either_to : (b : ℕ → Bool) (r : ℕ) (xs : List ℕ) → Are (map (lifts r) xs ++ needs_one r xs ∷ []) b → b r ≡ any_of b xs
+pub either_to : (b : ℕ → Bool) (r : ℕ) (xs : List ℕ) → AreTrue (map (lifts r) xs ++ needs_one r xs ∷ []) b → b r ≡ any_of b xs
 either_to b r xs h =
     let s = sym (all_true-append b (map (lifts r) xs) (needs_one r xs ∷ [])) ∙ h in
     both_to (b r) (any_of b xs) (sym (ups_is b r xs) ∙ and_left _ _ s) (sym (ap (λ z. (not (b r) || z) && true) (any_pos b xs)) ∙ and_right _ _ s)
 
-either_from : (b : ℕ → Bool) (r : ℕ) (xs : List ℕ) → b r ≡ any_of b xs → Are (map (lifts r) xs ++ needs_one r xs ∷ []) b
+either_from : (b : ℕ → Bool) (r : ℕ) (xs : List ℕ) → b r ≡ any_of b xs → AreTrue (map (lifts r) xs ++ needs_one r xs ∷ []) b
 either_from b r xs e =
     all_true-append b (map (lifts r) xs) (needs_one r xs ∷ []) ∙ and_both _ _ (ups_is b r xs ∙ first_from (b r) (any_of b xs) e) (ap (λ z. (not (b r) || z) && true) (any_pos b xs) ∙ last_from (b r) (any_of b xs) e)
 
@@ -82,11 +82,11 @@ pub needs_within : (v r : ℕ) (xs : List ℕ) → 1 ≤ r → r ≤ v → AreVa
 needs_within v r xs lo hi h = ((lo, hi), pos_within v xs h)
 
 -- either of several variables, as a fresh one
-pub either_defines : (v : ℕ) (xs : List ℕ) → AreVarsWithin v xs → Extends Always (Are ((either_due v xs).clauses)) v (v + 1)
+pub either_defines : (v : ℕ) (xs : List ℕ) → AreVarsWithin v xs → Extends Always (AreTrue ((either_due v xs).clauses)) v (v + 1)
 either_defines v xs h =
     let w = more_vars v (v + 1) xs (omega arith) h in
     single Always v ((either_due v xs).clauses) (λ b. any_of b xs) (λ a b h p. tt) (λ a b k. any_agree v a b xs k h)
-    (AreInRange-append (v + 1) (map (lifts (v + 1)) xs) (needs_one (v + 1) xs ∷ []) (ups_within (v + 1) (v + 1) xs (omega arith) (omega arith) w) (((omega arith, omega arith), pos_within (v + 1) xs w), tt))
+    (each_append (InRange (v + 1)) (map (lifts (v + 1)) xs) (needs_one (v + 1) xs ∷ []) (ups_within (v + 1) (v + 1) xs (omega arith) (omega arith) w) (((omega arith, omega arith), pos_within (v + 1) xs w), tt))
     (λ b p r. either_to b (v + 1) xs r) (λ b p r. either_from b (v + 1) xs r)
 
 -- what is due for either

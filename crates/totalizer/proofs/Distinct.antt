@@ -1,8 +1,10 @@
 -- Distinct variables of lists that are joined.
-use Rattle.std.proofs.Common.{◌≡◌, ℕ, ◌+◌, ◌-◌, ◌<◌, ◌≤◌, inl, inr, List, [], ◌++◌, length, refl, sym, ◌∙◌, arith, length-append}
-use Rattle.std.specs.Prelude.{slice_index}
-use Rattle.std.proofs.lemmas.Bool.Decides.{leb_tells}
-use Rattle.std.proofs.lemmas.List.{get_or_append_left, get_or-append_right, get_or-append-add}
+use Rattle.std.proofs.Common.{Bool, true, false, zero, suc, ◌∷◌, ◌≡◌, ℕ, ◌+◌, ◌-◌, ◌<◌, ◌≤◌, inl, inr, List, [], ◌++◌, length, refl, sym, ◌∙◌, arith, length-append}
+use Rattle.std.specs.Prelude.{slice_index, nat_eq, if◌then◌else◌}
+use Rattle.std.proofs.lemmas.Bool.Decides.{leb_tells, nat_tests}
+use Rattle.std.proofs.lemmas.List.{get_or_append_left, get_or-append_right}
+use Rattle.clause_store.specs.Fresh.{fresh_vars}
+use Rattle.clause_store.proofs.Once.{times_in, IsOnce, times_none}
 use Rattle.totalizer.specs.Counter.{AreDistinct, AreFresh}
 
 -- where a place of two joined lists lies
@@ -53,3 +55,28 @@ fresh_append u v w xs ys le hi f g =
       ];
       distinct = distinct_append xs ys f.distinct g.distinct (λ j k hj hk e. let a = f.within j hj in let b = g.above k hk in omega arith);
     }
+
+-- taken apart: without the first
+pub fresh_tail : (v w x : ℕ) (xs : List ℕ) → AreFresh v w (x ∷ xs) → AreFresh v w xs
+fresh_tail v w x xs f = record {
+  above = λ k lt. f.above (suc k) (omega arith);
+  within = λ k lt. f.within (suc k) (omega arith);
+  distinct = λ j k hj hk e. let s = f.distinct (suc j) (suc k) (omega arith) (omega arith) e in omega arith;
+}
+
+-- without a row of variables in front
+pub fresh_rest : (v w u n : ℕ) (xs : List ℕ) → AreFresh v w (fresh_vars u n ++ xs) → AreFresh v w xs
+fresh_rest v w u zero xs f = f
+fresh_rest v w u (suc n) xs f = fresh_rest v w (u + 1) n xs (fresh_tail v w (u + 1) (fresh_vars (u + 1) n ++ xs) f)
+
+-- distinct variables stand once each
+once_by : (z x : ℕ) (xs : List ℕ) (t : Bool) → nat_eq z x ≡ t → AreDistinct (x ∷ xs) → times_in z xs ≤ 1 → (if t then 1 else 0) + times_in z xs ≤ 1
+once_by z x xs true e h rest =
+    let s : z ≡ x = grind (arith, nat_tests) in
+    let n = times_none z xs (λ k lt is. let q : zero ≡ suc k = h zero (suc k) (omega arith) (omega arith) (sym s ∙ sym is) in omega arith) in
+    omega arith
+once_by z x xs false e h rest = omega (arith, rest)
+
+pub once_of : (xs : List ℕ) → AreDistinct xs → IsOnce xs
+once_of [] h z = omega arith
+once_of (x ∷ xs) h z = once_by z x xs (nat_eq z x) refl h (once_of xs (λ j k hj hk e. let s : suc j ≡ suc k = h (suc j) (suc k) (omega arith) (omega arith) e in omega arith) z)

@@ -4,18 +4,17 @@ use Rattle.std.specs.Prelude.{slice_index, if◌then◌else◌, nat_lt, ◌==◌
 use Rattle.std.proofs.lemmas.Bool.Decides.{nat_tests, leb_tells}
 use Rattle.clause_store.specs.declared.lit.Lit.{Lit}
 use Rattle.clause_store.specs.Lits.{positive_lit, negative_lit, IsWithin, InRange, AreInRange}
-use Rattle.clause_store.specs.Truth.{Agree, clause_true, all_true}
-use Rattle.clause_store.specs.Extends.{Extends, Are}
-use Rattle.clause_store.proofs.Truths.{AreInRange-append, all_true-append, clause_true-append, and_left, and_right, and_both}
+use Rattle.clause_store.specs.Truth.{AreTrue, Agree, clause_true, all_true}
+use Rattle.clause_store.specs.Extends.{Extends}
+use Rattle.clause_store.proofs.Truths.{all_true-append, clause_true-append, and_left, and_right, and_both, or_none}
 use Rattle.clause_store.proofs.Blocks.{block}
-use Rattle.totalizer.proofs.FreshVars.{length-fresh_vars, index_fresh_vars, count_fresh_vars}
-use Rattle.totalizer.specs.Counter.{fresh_vars, count_of, IsUnary, AreVarsWithin}
+use Rattle.clause_store.proofs.Fresh.{length-fresh_vars, index_fresh_vars}
+use Rattle.clause_store.specs.Fresh.{fresh_vars}
+use Rattle.clause_store.proofs.Each.{each_append}
+use Rattle.totalizer.proofs.FreshVars.{count_fresh_vars}
+use Rattle.totalizer.specs.Counter.{count_of, IsUnary, AreVarsWithin}
 use Rattle.totalizer.specs.Joined.{joined_blocks}
 use Rattle.totalizer.specs.Plus.{under, over, up_clauses, down_clauses, pair_clauses, row_clauses, plus_clauses, plus_due, Both, IsSum}
-
-or_false : (x : Bool) → (x || false) ≡ x
-or_false true = refl
-or_false false = refl
 
 count_step : (t : Bool) (m n : ℕ) → m ≤ n → (if t then suc m else m) ≤ suc n
 count_step true m n h = omega arith
@@ -34,11 +33,11 @@ over_num i n c w le in' h = grind (arith, nat_tests)
 
 under_step : (t : Bool) (b : ℕ → Bool) (x : ℕ) → clause_true b (if t then [] else negative_lit x ∷ []) ≡ (if t then false else not (b x))
 under_step true b x = refl
-under_step false b x = or_false (not (b x))
+under_step false b x = or_none (not (b x))
 
 over_step : (t : Bool) (b : ℕ → Bool) (x : ℕ) → clause_true b (if t then [] else positive_lit x ∷ []) ≡ (if t then false else b x)
 over_step true b x = refl
-over_step false b x = or_false (b x)
+over_step false b x = or_none (b x)
 
 -- the literals of a counter, at a number that it may have
 under_true : (b : ℕ → Bool) (xs : List ℕ) (i : ℕ) → IsUnary b xs → i ≤ length xs → clause_true b (under xs i) ≡ nat_lt (count_of b xs) i
@@ -57,13 +56,13 @@ up_step : (t : Bool) (b : ℕ → Bool) (us ws : List Lit) (k : ℕ) (m n : Bool
 up_step true b us ws k m n e f = refl
 up_step false b us ws k m n e f =
     and_true (clause_true b (us ++ (ws ++ positive_lit k ∷ []))) ∙ clause_true-append b us (ws ++ positive_lit k ∷ []) ∙ ap (λ z. clause_true b us || z) (clause_true-append b ws (positive_lit k ∷ []))
-    ∙ ap (λ z. clause_true b us || (clause_true b ws || z)) (or_false (b k)) ∙ ap (λ z. z || (clause_true b ws || b k)) e ∙ ap (λ z. m || (z || b k)) f
+    ∙ ap (λ z. clause_true b us || (clause_true b ws || z)) (or_none (b k)) ∙ ap (λ z. z || (clause_true b ws || b k)) e ∙ ap (λ z. m || (z || b k)) f
 
 down_step : (t : Bool) (b : ℕ → Bool) (us ws : List Lit) (k : ℕ) (m n : Bool) → clause_true b us ≡ m → clause_true b ws ≡ n → all_true b (if t then [] else (us ++ (ws ++ negative_lit k ∷ [])) ∷ []) ≡ (t || (m || (n || not (b k))))
 down_step true b us ws k m n e f = refl
 down_step false b us ws k m n e f =
     and_true (clause_true b (us ++ (ws ++ negative_lit k ∷ []))) ∙ clause_true-append b us (ws ++ negative_lit k ∷ []) ∙ ap (λ z. clause_true b us || z) (clause_true-append b ws (negative_lit k ∷ []))
-    ∙ ap (λ z. clause_true b us || (clause_true b ws || z)) (or_false (not (b k))) ∙ ap (λ z. z || (clause_true b ws || not (b k))) e ∙ ap (λ z. m || (z || not (b k))) f
+    ∙ ap (λ z. clause_true b us || (clause_true b ws || z)) (or_none (not (b k))) ∙ ap (λ z. z || (clause_true b ws || not (b k))) e ∙ ap (λ z. m || (z || not (b k))) f
 
 up_truth : (b : ℕ → Bool) (xs ys : List ℕ) (v i j : ℕ) → IsUnary b xs → IsUnary b ys → i ≤ length xs → j ≤ length ys → all_true b (up_clauses xs ys v i j) ≡ ((i == 0 && (j == 0)) || (nat_lt (count_of b xs) i || (nat_lt (count_of b ys) j || b (v + i + j))))
 up_truth b xs ys v i j u w h k =
@@ -86,23 +85,23 @@ down_says i j p q m n x h lo lo' lt le le' = grind (arith, nat_tests)
 down_holds : (i j p q m n : ℕ) (x : Bool) → (i + j < p + q → m ≤ i → n ≤ j → x ≡ false) → i ≤ p → j ≤ q → ((i == p && (j == q)) || (nat_lt i m || (nat_lt j n || not x))) ≡ true
 down_holds i j p q m n x h lo lo' = grind (arith, nat_tests)
 
-pub joined_to : (b : ℕ → Bool) (f : ℕ → List (List Lit)) (n : ℕ) → Are (joined_blocks f n) b → (j : ℕ) → j < n → Are (f j) b
+pub joined_to : (b : ℕ → Bool) (f : ℕ → List (List Lit)) (n : ℕ) → AreTrue (joined_blocks f n) b → (j : ℕ) → j < n → AreTrue (f j) b
 joined_to b f zero h j lt = absurd (omega arith)
 joined_to b f (suc n) h j lt =
     let s = sym (all_true-append b (joined_blocks f n) (f n)) ∙ h in
     elim (leb_tells n j) [
-      | inl x ↦ (let e : n ≡ j = let y = x.1 in omega arith in subst (λ j. Are (f j) b) e (and_right (all_true b (joined_blocks f n)) (all_true b (f n)) s))
+      | inl x ↦ (let e : n ≡ j = let y = x.1 in omega arith in subst (λ j. AreTrue (f j) b) e (and_right (all_true b (joined_blocks f n)) (all_true b (f n)) s))
       | inr x ↦ joined_to b f n (and_left (all_true b (joined_blocks f n)) (all_true b (f n)) s) j x.1
     ]
 
-pub joined_from : (b : ℕ → Bool) (f : ℕ → List (List Lit)) (n : ℕ) → ((j : ℕ) → j < n → Are (f j) b) → Are (joined_blocks f n) b
+pub joined_from : (b : ℕ → Bool) (f : ℕ → List (List Lit)) (n : ℕ) → ((j : ℕ) → j < n → AreTrue (f j) b) → AreTrue (joined_blocks f n) b
 joined_from b f zero h = refl
 joined_from b f (suc n) h =
     all_true-append b (joined_blocks f n) (f n) ∙ and_both (all_true b (joined_blocks f n)) (all_true b (f n)) (joined_from b f n (λ j lt. h j (omega arith))) (h n (omega arith))
 
 pub joined_within : (v : ℕ) (f : ℕ → List (List Lit)) (n : ℕ) → ((j : ℕ) → j < n → AreInRange v (f j)) → AreInRange v (joined_blocks f n)
 joined_within v f zero h = tt
-joined_within v f (suc n) h = AreInRange-append v (joined_blocks f n) (f n) (joined_within v f n (λ j lt. h j (omega arith))) (h n (omega arith))
+joined_within v f (suc n) h = each_append (InRange v) (joined_blocks f n) (f n) (joined_within v f n (λ j lt. h j (omega arith))) (h n (omega arith))
 
 lits_within-append : (v : ℕ) (xs ys : List Lit) → InRange v xs → InRange v ys → InRange v (xs ++ ys)
 lits_within-append v [] ys h k = k
@@ -139,7 +138,7 @@ over_within w xs i h le = some_lits (i == length xs) w (positive_lit (slice_inde
 
 pair_within : (v w : ℕ) (xs ys : List ℕ) (i j : ℕ) → w ≡ v + (length xs + length ys) → AreVarsWithin w xs → AreVarsWithin w ys → i ≤ length xs → j ≤ length ys → AreInRange w (pair_clauses xs ys v i j)
 pair_within v w xs ys i j e hx hy le le' =
-    AreInRange-append w (up_clauses xs ys v i j) (down_clauses xs ys v i j)
+    each_append (InRange w) (up_clauses xs ys v i j) (down_clauses xs ys v i j)
     (some_clause (i == 0 && (j == 0)) w (under xs i ++ (under ys j ++ positive_lit (v + i + j) ∷ [])) (λ t. let lo = not_both_zero i j t in
     lits_within-append w (under xs i) (under ys j ++ positive_lit (v + i + j) ∷ []) (under_within w xs i hx le) (lits_within-append w (under ys j) (positive_lit (v + i + j) ∷ []) (under_within w ys j hy le') ((omega arith, omega arith), tt))))
     (some_clause (i == length xs && (j == length ys)) w (over xs i ++ (over ys j ++ negative_lit (v + i + j + 1) ∷ [])) (λ t. let hi = not_both_last i j (length xs) (length ys) t le le' in
@@ -158,9 +157,9 @@ pub unary_agree : (v : ℕ) (a b : ℕ → Bool) (xs : List ℕ) → Agree v a b
 unary_agree v a b xs h w u = λ k lt. let y = w k lt in sym (h (slice_index xs k) y.0 y.1) ∙ u k lt ∙ ap (λ n. nat_lt k n) (count_agree v a b xs h w)
 
 -- the new outputs, from 0, say whether the sum is above their number
-pub plus_to : (v : ℕ) (xs ys : List ℕ) (b : ℕ → Bool) → Both xs ys b → Are (plus_clauses xs ys v) b → (m : ℕ) → m < length xs + length ys → b (v + m + 1) ≡ nat_lt m (count_of b xs + count_of b ys)
+pub plus_to : (v : ℕ) (xs ys : List ℕ) (b : ℕ → Bool) → Both xs ys b → AreTrue (plus_clauses xs ys v) b → (m : ℕ) → m < length xs + length ys → b (v + m + 1) ≡ nat_lt m (count_of b xs + count_of b ys)
 plus_to v xs ys b p r m lt =
-    let pick : (i j : ℕ) → i ≤ length xs → j ≤ length ys → Are (pair_clauses xs ys v i j) b = λ i j le le'.
+    let pick : (i j : ℕ) → i ≤ length xs → j ≤ length ys → AreTrue (pair_clauses xs ys v i j) b = λ i j le le'.
     joined_to b (pair_clauses xs ys v i) (length ys + 1) (joined_to b (row_clauses xs ys v) (length xs + 1) r i (omega arith)) j (omega arith) in
     let up : (i j : ℕ) → i ≤ length xs → j ≤ length ys → all_true b (up_clauses xs ys v i j) ≡ true = λ i j le le'. and_left _ _ (sym (all_true-append b (up_clauses xs ys v i j) (down_clauses xs ys v i j)) ∙ pick i j le le') in
     let down : (i j : ℕ) → i ≤ length xs → j ≤ length ys → all_true b (down_clauses xs ys v i j) ≡ true = λ i j le le'. and_right _ _ (sym (all_true-append b (up_clauses xs ys v i j) (down_clauses xs ys v i j)) ∙ pick i j le le') in
@@ -185,7 +184,7 @@ plus_to v xs ys b p r m lt =
           ap b (sym e) ∙ d ∙ sym yes)
     ]
 
-plus_from : (v : ℕ) (xs ys : List ℕ) (b : ℕ → Bool) → Both xs ys b → ((m : ℕ) → m < length xs + length ys → b (v + m + 1) ≡ nat_lt m (count_of b xs + count_of b ys)) → Are (plus_clauses xs ys v) b
+plus_from : (v : ℕ) (xs ys : List ℕ) (b : ℕ → Bool) → Both xs ys b → ((m : ℕ) → m < length xs + length ys → b (v + m + 1) ≡ nat_lt m (count_of b xs + count_of b ys)) → AreTrue (plus_clauses xs ys v) b
 plus_from v xs ys b p d =
     let a = count_of b xs in
     let c = count_of b ys in
@@ -204,7 +203,7 @@ plus_from v xs ys b p d =
     ap b e ∙ d (i + j) lt ∙ no) (omega arith) (omega arith))))
 
 -- the clauses of a sum extend uniquely, where the given counters are in order
-pub plus_defines : (v : ℕ) (xs ys : List ℕ) → AreVarsWithin v xs → AreVarsWithin v ys → Extends (Both xs ys) (Are (plus_clauses xs ys v)) v (v + (length xs + length ys))
+pub plus_defines : (v : ℕ) (xs ys : List ℕ) → AreVarsWithin v xs → AreVarsWithin v ys → Extends (Both xs ys) (AreTrue (plus_clauses xs ys v)) v (v + (length xs + length ys))
 plus_defines v xs ys hx hy =
     let w = v + (length xs + length ys) in
     let wx : AreVarsWithin w xs = more_vars v w xs (omega arith) hx in
@@ -217,7 +216,7 @@ plus_defines v xs ys hx hy =
     (λ b p d. plus_from v xs ys b p (λ m lt. let e : v + m + 1 - (v + 1) ≡ m = omega arith in d (v + m + 1) (omega arith) (omega arith) ∙ ap (λ z. nat_lt z (count_of b xs + count_of b ys)) e))
 
 -- the outputs of a sum are in order, and as many are true as in both
-pub plus_value : (v : ℕ) (xs ys : List ℕ) (b : ℕ → Bool) → Both xs ys b → Are (plus_clauses xs ys v) b → (count_of b (fresh_vars v (length xs + length ys)) ≡ count_of b xs + count_of b ys) × IsUnary b (fresh_vars v (length xs + length ys))
+pub plus_value : (v : ℕ) (xs ys : List ℕ) (b : ℕ → Bool) → Both xs ys b → AreTrue (plus_clauses xs ys v) b → (count_of b (fresh_vars v (length xs + length ys)) ≡ count_of b xs + count_of b ys) × IsUnary b (fresh_vars v (length xs + length ys))
 plus_value v xs ys b p r =
     let n = length xs + length ys in
     let ale : count_of b xs ≤ length xs = count_le b xs in

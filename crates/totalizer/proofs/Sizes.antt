@@ -2,9 +2,11 @@
 use Rattle.std.proofs.Common.{◌≡◌, ℕ, zero, suc, ◌+◌, ◌*◌, ◌<◌, ◌≤◌, ◌/◌, Bool, true, false, List, [], ◌∷◌, length, take, drop, length-take, length-drop, refl, sym, subst, arith}
 use Rattle.std.specs.Prelude.{nat_le, nat_lt, if◌then◌else◌, slice_index}
 use Rattle.std.proofs.lemmas.Bool.Decides.{nat_tests}
-use Rattle.totalizer.specs.Counter.{Due, fresh_vars, IsUnary, AreVarsWithin, AllUnary, AllVarsWithin, leaves, AreFresh}
+use Rattle.clause_store.specs.Fresh.{fresh_vars}
+use Rattle.clause_store.proofs.Fresh.{length-fresh_vars}
+use Rattle.totalizer.specs.Counter.{Due, IsUnary, AreVarsWithin, AllUnary, AllVarsWithin, leaves, AreFresh}
 use Rattle.totalizer.specs.Total.{both_due, total_by, total_due}
-use Rattle.totalizer.proofs.FreshVars.{length-fresh_vars, fresh_vars_are}
+use Rattle.totalizer.proofs.FreshVars.{fresh_vars_are}
 use Rattle.totalizer.proofs.Totals.{total_grows, total_more}
 
 one_unary : (t : Bool) → t ≡ nat_lt 0 (if t then 1 else 0)

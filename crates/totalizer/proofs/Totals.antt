@@ -5,12 +5,13 @@ use Rattle.std.proofs.lemmas.Bool.Decides.{nat_tests, leb_tells}
 use Rattle.clause_store.specs.declared.lit.Lit.{Lit}
 use Rattle.clause_store.specs.Lits.{sorted_clause}
 use Rattle.clause_store.specs.Clauses.{Clauses}
-use Rattle.clause_store.specs.Truth.{Agree, Satisfies}
-use Rattle.clause_store.specs.Extends.{Are, Always}
+use Rattle.clause_store.specs.Truth.{Agree, AreTrue}
+use Rattle.clause_store.specs.Extends.{Always}
 use Rattle.clause_store.specs.Grew.{Grew}
 use Rattle.clause_store.proofs.Truths.{all_true-append, and_left, and_right}
 use Rattle.clause_store.proofs.Blocks.{next_are, nothing, weaker}
 use Rattle.clause_store.proofs.Grows.{stored-append, grew_front, grew_next}
+use Rattle.clause_store.specs.Limits.{var_limit}
 use Rattle.totalizer.specs.Counter.{Due, count_of, IsUnary, AreVarsWithin, AllUnary, AllVarsWithin, sum_of}
 use Rattle.totalizer.specs.Plus.{plus_clauses, plus_due}
 use Rattle.totalizer.specs.Total.{both_due, alone_due, total_by, total_due, IsTotal}
@@ -95,13 +96,13 @@ plus_total : (v n : ℕ) (parts : List (List ℕ)) (l r : Due) → AllVarsWithin
 plus_total v n parts l r w first second =
     let P : (ℕ → Bool) → Type 0 = λ b. AllUnary b parts in
     let g : l.vars ≤ r.vars = second.extends.grows in
-    let both : (b : ℕ → Bool) → P b → Are (l.clauses ++ r.clauses) b → Are l.clauses b × Are r.clauses b = λ b p h. let s = sym (all_true-append b l.clauses r.clauses) ∙ h in (and_left _ _ s, and_right _ _ s) in
+    let both : (b : ℕ → Bool) → P b → AreTrue (l.clauses ++ r.clauses) b → AreTrue l.clauses b × AreTrue r.clauses b = λ b p h. let s = sym (all_true-append b l.clauses r.clauses) ∙ h in (and_left _ _ s, and_right _ _ s) in
     let given : (a b : ℕ → Bool) → Agree v a b → P a → P b = λ a b h p. all_unary_agree v a b parts h w p in
-    let one = weaker P (λ b. AllUnary b (take n parts)) (Are l.clauses) (Are l.clauses) v l.vars first.extends given first.extends.within (λ b p. (unary_split b n parts p).0) (λ b p h. h) (λ b p h. h) in
+    let one = weaker P (λ b. AllUnary b (take n parts)) (AreTrue l.clauses) (AreTrue l.clauses) v l.vars first.extends given first.extends.within (λ b p. (unary_split b n parts p).0) (λ b p h. h) (λ b p h. h) in
     let two = next_are P (λ b. AllUnary b (drop n parts)) v l.vars r.vars l.clauses r.clauses one second.extends (λ b p h. (unary_split b n parts p).1) in
     let three = next_are P (λ b. IsUnary b l.outputs × IsUnary b r.outputs) v r.vars (r.vars + (length l.outputs + length r.outputs)) (l.clauses ++ r.clauses) (plus_clauses l.outputs r.outputs r.vars) two (plus_defines r.vars l.outputs r.outputs (more_vars l.vars r.vars l.outputs g first.within) second.within)
     (λ b p h. let s = both b p h in let u = unary_split b n parts p in (first.in_order b u.0 s.0, second.in_order b u.1 s.1)) in
-    let means : (b : ℕ → Bool) → P b → Satisfies b (both_due l r).clauses → (count_of b (both_due l r).outputs ≡ sum_of b parts) × IsUnary b (both_due l r).outputs = λ b p h.
+    let means : (b : ℕ → Bool) → P b → AreTrue (both_due l r).clauses b → (count_of b (both_due l r).outputs ≡ sum_of b parts) × IsUnary b (both_due l r).outputs = λ b p h.
     let t = sym (all_true-append b (l.clauses ++ r.clauses) (plus_clauses l.outputs r.outputs r.vars)) ∙ h in
     let s = both b p (and_left _ _ t) in
     let u = unary_split b n parts p in
@@ -118,7 +119,7 @@ plus_total v n parts l r w first second =
 
 alone : (v : ℕ) (p : List ℕ) → AreVarsWithin v p → IsTotal v (p ∷ []) (alone_due v (p ∷ []))
 alone v p w = record {
-  extends = weaker (λ b. AllUnary b (p ∷ [])) (λ b. AllUnary b (p ∷ [])) (Are []) Always v v (nothing (λ b. AllUnary b (p ∷ [])) v (λ a b h u. (unary_agree v a b p h w u.0, tt))) (λ a b h u. (unary_agree v a b p h w u.0, tt)) (λ a b h r. refl) (λ b u. u) (λ b u r. tt) (λ b u r. refl);
+  extends = weaker (λ b. AllUnary b (p ∷ [])) (λ b. AllUnary b (p ∷ [])) (AreTrue []) Always v v (nothing (λ b. AllUnary b (p ∷ [])) v (λ a b h u. (unary_agree v a b p h w u.0, tt))) (λ a b h u. (unary_agree v a b p h w u.0, tt)) (λ a b h r. refl) (λ b u. u) (λ b u r. tt) (λ b u r. refl);
   within = w;
   in_order = λ b u h. u.0;
   value = λ b u h. omega arith;
@@ -152,7 +153,7 @@ back_some parts back big e = (omega (arith, ap length e, length-drop (length par
 pub front_in : (v : ℕ) (parts front : List (List ℕ)) → front ≡ take (length parts / 2) parts → AllVarsWithin v parts → AllVarsWithin v front
 front_in v parts front e w = subst (λ ps. AllVarsWithin v ps) (sym e) (within_split v (length parts / 2) parts w).0
 
-pub front_room : (v : ℕ) (parts front : List (List ℕ)) → 2 ≤ length parts → front ≡ take (length parts / 2) parts → (total_due v parts).vars ≤ 2 ^ 31 → (total_due v front).vars ≤ 2 ^ 31
+pub front_room : (v : ℕ) (parts front : List (List ℕ)) → 2 ≤ length parts → front ≡ take (length parts / 2) parts → (total_due v parts).vars ≤ var_limit → (total_due v front).vars ≤ var_limit
 front_room v parts front big e h = let r = total_room v parts big in let k = ap (λ ps. (total_due v ps).vars) e in omega (arith, r.0, k)
 
 -- where the totals of both halves are done
@@ -191,7 +192,7 @@ module _ (parts : List (List ℕ)) (old : Clauses) (big : 2 ≤ length parts) wh
     pub back_in : AllVarsWithin old.vars parts → AllVarsWithin mid.vars back
     back_in w = more_all old.vars mid.vars back past_front (subst (λ ps. AllVarsWithin old.vars ps) (sym is_back) (within_split old.vars (length parts / 2) parts w).1)
 
-    pub back_room : (total_due old.vars parts).vars ≤ 2 ^ 31 → (total_due mid.vars back).vars ≤ 2 ^ 31
+    pub back_room : (total_due old.vars parts).vars ≤ var_limit → (total_due mid.vars back).vars ≤ var_limit
     back_room h = let r = total_room old.vars parts big in let e = ap (λ (d : Due). d.vars) due_back in omega (arith, r.1, e)
 
     -- a refusal in the back half
@@ -225,7 +226,7 @@ module _ (parts : List (List ℕ)) (old : Clauses) (big : 2 ≤ length parts) wh
       pub both_outputs : (plus_due end.vars left right).outputs ≡ (total_due old.vars parts).outputs
       both_outputs = ap (λ (d : Due). d.outputs) due_both ∙ sym (ap (λ (d : Due). d.outputs) (total_more old.vars parts big))
 
-      pub both_room : (total_due old.vars parts).vars ≤ 2 ^ 31 → (plus_due end.vars left right).vars ≤ 2 ^ 31
+      pub both_room : (total_due old.vars parts).vars ≤ var_limit → (plus_due end.vars left right).vars ≤ var_limit
       both_room h = omega (arith, both_vars)
 
       pub left_in : AllVarsWithin old.vars parts → AreVarsWithin end.vars left

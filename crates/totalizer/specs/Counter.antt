@@ -1,5 +1,5 @@
 -- Unary counters: lists of variables of which, where they count, the true ones come first.
-use Rattle.std.specs.Prelude.{◌≡◌, ℕ, zero, suc, ◌+◌, ◌<◌, ◌≤◌, Bool, List, [], ◌∷◌, length, map, slice_index, if◌then◌else◌, nat_lt}
+use Rattle.std.specs.Prelude.{◌≡◌, ℕ, suc, ◌+◌, ◌<◌, ◌≤◌, Bool, List, [], ◌∷◌, length, map, slice_index, if◌then◌else◌, nat_lt}
 use Rattle.clause_store.specs.declared.lit.Lit.{Lit}
 
 -- what is due: clauses as they are made, the number of variables then, and the outputs
@@ -7,11 +7,6 @@ pub record Due : Type 0 where
   pub clauses : List (List Lit)
   pub vars : ℕ
   pub outputs : List ℕ
-
--- the n variables after v
-abbrev pub fresh_vars : ℕ → ℕ → List ℕ
-fresh_vars v zero = []
-fresh_vars v (suc n) = (v + 1) ∷ fresh_vars (v + 1) n
 
 -- the value of a counter: how many outputs are true
 abbrev pub count_of : (ℕ → Bool) → List ℕ → ℕ

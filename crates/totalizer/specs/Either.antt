@@ -2,8 +2,8 @@
 use Rattle.std.specs.Prelude.{◌≡◌, ℕ, ◌+◌, Bool, false, ◌||◌, List, [], ◌∷◌, ◌++◌, map, if◌then◌else◌}
 use Rattle.clause_store.specs.declared.lit.Lit.{Lit}
 use Rattle.clause_store.specs.Lits.{positive_lit, negative_lit}
-use Rattle.clause_store.specs.Truth.{Satisfies}
-use Rattle.clause_store.specs.Extends.{Extends, Are, Always}
+use Rattle.clause_store.specs.Truth.{AreTrue}
+use Rattle.clause_store.specs.Extends.{Extends, Always}
 use Rattle.totalizer.specs.Counter.{Due, count_of, IsUnary}
 
 -- one of the variables is true
@@ -30,6 +30,6 @@ either_due v xs = record {
 -- the clauses hold in exactly one extension, and there the outputs count 1 where one of the variables is true, and 0
 -- elsewhere
 pub record IsEither (v : ℕ) (xs : List ℕ) (d : Due) : Type 0 where
-  pub extends : Extends Always (Are d.clauses) v d.vars
-  pub in_order : (b : ℕ → Bool) → Satisfies b d.clauses → IsUnary b d.outputs
-  pub value : (b : ℕ → Bool) → Satisfies b d.clauses → count_of b d.outputs ≡ (if any_of b xs then 1 else 0)
+  pub extends : Extends Always (AreTrue d.clauses) v d.vars
+  pub in_order : (b : ℕ → Bool) → AreTrue d.clauses b → IsUnary b d.outputs
+  pub value : (b : ℕ → Bool) → AreTrue d.clauses b → count_of b d.outputs ≡ (if any_of b xs then 1 else 0)

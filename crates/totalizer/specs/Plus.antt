@@ -2,9 +2,10 @@
 use Rattle.std.specs.Prelude.{◌≡◌, ℕ, ◌+◌, ◌-◌, Bool, ◌==◌, ◌&&◌, List, [], ◌∷◌, ◌++◌, length, slice_index, if◌then◌else◌}
 use Rattle.clause_store.specs.declared.lit.Lit.{Lit}
 use Rattle.clause_store.specs.Lits.{positive_lit, negative_lit}
-use Rattle.clause_store.specs.Truth.{Satisfies}
-use Rattle.clause_store.specs.Extends.{Extends, Are}
-use Rattle.totalizer.specs.Counter.{Due, fresh_vars, count_of, IsUnary}
+use Rattle.clause_store.specs.Truth.{AreTrue}
+use Rattle.clause_store.specs.Extends.{Extends}
+use Rattle.clause_store.specs.Fresh.{fresh_vars}
+use Rattle.totalizer.specs.Counter.{Due, count_of, IsUnary}
 use Rattle.totalizer.specs.Joined.{joined_blocks}
 
 -- the negation of output i, from 1, if there is one
@@ -47,6 +48,6 @@ Both xs ys b = IsUnary b xs × IsUnary b ys
 
 -- where both count, the clauses hold in exactly one extension, and there the outputs count the sum
 pub record IsSum (v : ℕ) (xs ys : List ℕ) (d : Due) : Type 0 where
-  pub extends : Extends (Both xs ys) (Are d.clauses) v d.vars
-  pub in_order : (b : ℕ → Bool) → Both xs ys b → Satisfies b d.clauses → IsUnary b d.outputs
-  pub value : (b : ℕ → Bool) → Both xs ys b → Satisfies b d.clauses → count_of b d.outputs ≡ count_of b xs + count_of b ys
+  pub extends : Extends (Both xs ys) (AreTrue d.clauses) v d.vars
+  pub in_order : (b : ℕ → Bool) → Both xs ys b → AreTrue d.clauses b → IsUnary b d.outputs
+  pub value : (b : ℕ → Bool) → Both xs ys b → AreTrue d.clauses b → count_of b d.outputs ≡ count_of b xs + count_of b ys

@@ -1,7 +1,7 @@
 -- The clauses of a sum of many counters, by halves.
 use Rattle.std.specs.Prelude.{◌≡◌, ℕ, zero, suc, ◌/◌, Bool, List, [], ◌∷◌, ◌++◌, length, take, drop, if◌then◌else◌, nat_le}
-use Rattle.clause_store.specs.Truth.{Satisfies}
-use Rattle.clause_store.specs.Extends.{Extends, Are}
+use Rattle.clause_store.specs.Truth.{AreTrue}
+use Rattle.clause_store.specs.Extends.{Extends}
 use Rattle.totalizer.specs.Counter.{Due, count_of, IsUnary, AllUnary, AreVarsWithin, sum_of}
 use Rattle.totalizer.specs.Plus.{plus_due}
 
@@ -31,7 +31,7 @@ total_due v parts = total_by (length parts) v parts
 
 -- where each part counts, the clauses hold in exactly one extension, and there the outputs count the sum of all parts
 pub record IsTotal (v : ℕ) (parts : List (List ℕ)) (d : Due) : Type 0 where
-  pub extends : Extends (λ b. AllUnary b parts) (Are d.clauses) v d.vars
+  pub extends : Extends (λ b. AllUnary b parts) (AreTrue d.clauses) v d.vars
   pub within : AreVarsWithin d.vars d.outputs
-  pub in_order : (b : ℕ → Bool) → AllUnary b parts → Satisfies b d.clauses → IsUnary b d.outputs
-  pub value : (b : ℕ → Bool) → AllUnary b parts → Satisfies b d.clauses → count_of b d.outputs ≡ sum_of b parts
+  pub in_order : (b : ℕ → Bool) → AllUnary b parts → AreTrue d.clauses b → IsUnary b d.outputs
+  pub value : (b : ℕ → Bool) → AllUnary b parts → AreTrue d.clauses b → count_of b d.outputs ≡ sum_of b parts

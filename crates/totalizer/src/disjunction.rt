@@ -3,10 +3,11 @@
 ghost use Rattle.std.specs.Prelude.{◌≡◌, ℕ, ◌+◌, ◌<◌, ◌≤◌, ◌^◌, [], ◌∷◌, ◌++◌, IfOk, OnOk, OnErr, length, map};
 ghost use Rattle.clause_store.specs.Lits.{sorted_clause};
 ghost use Rattle.clause_store.specs.Grew.{Grew};
+ghost use Rattle.clause_store.specs.Limits.{var_limit};
 ghost use Rattle.totalizer.specs.Counter.{AreVarsWithin};
 ghost use Rattle.totalizer.specs.Either.{lifts, needs_one, either_due, IsEither};
 
-use crate::literals::{add, positive};
+use crate::literals::add;
 use crate::unary::{Unary, leaf};
 use clause_store::{ClauseList, Lit};
 use edge::NoMemory;
@@ -22,7 +23,7 @@ fn add_lifts(clauses: &mut ClauseList, vars: &[u32], output: u32) -> Result<(), 
     ensures err { OnErr result (Grew clauses.old clauses.new (map (lifts output) vars.now)) }
 {
     for var in vars {
-        add(clauses, &[positive(*var).negated(), positive(output)])?;
+        add(clauses, &[Lit::negative(*var), Lit::positive(output)])?;
     }
     Ok(())
 }
@@ -32,9 +33,9 @@ fn needing_one(alloc: Global, vars: &[u32], output: u32) -> Result<Vec<Lit>, NoM
     ensures { IfOk result (λ lits. lits.items ≡ needs_one output vars.now) }
 {
     let mut lits = Vec::with_capacity(alloc, vars.len() + 1)?;
-    lits.push(positive(output).negated())?;
+    lits.push(Lit::negative(output))?;
     for var in vars {
-        lits.push(positive(*var))?;
+        lits.push(Lit::positive(*var))?;
     }
     Ok(lits)
 }
@@ -45,7 +46,7 @@ fn needing_one(alloc: Global, vars: &[u32], output: u32) -> Result<Vec<Lit>, NoM
 pub fn either(alloc: Global, clauses: &mut ClauseList, vars: &[u32]) -> Result<Unary, NoMemory>
     requires some { 1 ≤ length vars.now }
     requires vars_in { AreVarsWithin clauses.old.vars vars.now }
-    requires room { clauses.old.vars < 2 ^ 31 }
+    requires room { clauses.old.vars < var_limit }
     ensures outputs { IfOk result (λ r. r ≡ (either_due clauses.old.vars vars.now).outputs) }
     ensures vars { OnOk result (clauses.new.vars ≡ (either_due clauses.old.vars vars.now).vars) }
     ensures list { OnOk result (clauses.new.list ≡ clauses.old.list ++ map sorted_clause (either_due clauses.old.vars vars.now).clauses) }

@@ -6,16 +6,6 @@ ghost use Rattle.clause_store.specs.Lits.{positive_lit, sorted_clause, InRange};
 use clause_store::{ClauseList, Lit};
 use edge::NoMemory;
 
-/// The literal of a variable.
-pub fn positive(var: u32) -> Lit
-    ensures { result ≡ positive_lit var }
-{
-    Lit {
-        var,
-        positive: true,
-    }
-}
-
 /// One more clause, whose number is not needed.
 pub fn add(clauses: &mut ClauseList, lits: &[Lit]) -> Result<(), NoMemory>
     requires in_range { InRange clauses.old.vars lits.now }

@@ -3,13 +3,14 @@
 ghost use Rattle.std.specs.Prelude.{◌≡◌, ℕ, ◌+◌, ◌*◌, ◌<◌, ◌≤◌, ◌^◌, [], ◌∷◌, ◌++◌, IfOk, OnOk, OnErr, length, map};
 ghost use Rattle.clause_store.specs.Lits.{sorted_clause};
 ghost use Rattle.clause_store.specs.Grew.{Grew};
-ghost use Rattle.totalizer.specs.Counter.{fresh_vars, AreVarsWithin, AllVarsWithin};
+ghost use Rattle.clause_store.specs.Limits.{var_limit};
+ghost use Rattle.totalizer.specs.Counter.{AreVarsWithin, AllVarsWithin};
 ghost use Rattle.totalizer.specs.Plus.{up_clauses, down_clauses, pair_clauses, row_clauses, plus_clauses, plus_due, IsSum};
 ghost use Rattle.totalizer.specs.Total.{total_due, IsTotal};
 
-use crate::literals::{add, positive};
+use crate::literals::add;
 use crate::unary::Unary;
-use clause_store::ClauseList;
+use clause_store::{ClauseList, Lit};
 use edge::NoMemory;
 use std::alloc::Global;
 
@@ -27,7 +28,7 @@ fn add_up(
     requires left_in { AreVarsWithin base left.now }
     requires right_in { AreVarsWithin base right.now }
     requires room { base + length left.now + length right.now ≤ clauses.old.vars }
-    requires few { clauses.old.vars ≤ 2 ^ 31 }
+    requires few { clauses.old.vars ≤ var_limit }
     ensures vars { clauses.new.vars ≡ clauses.old.vars }
     ensures list { OnOk result (clauses.new.list ≡ clauses.old.list ++ map sorted_clause (up_clauses left.now right.now base i j)) }
     ensures err { OnErr result (clauses.new.list ≡ clauses.old.list) }
@@ -38,15 +39,15 @@ fn add_up(
         }
         return add(
             clauses,
-            &[positive(right[j - 1]).negated(), positive(base + j as u32)],
+            &[Lit::negative(right[j - 1]), Lit::positive(base + j as u32)],
         );
     }
-    let sum = positive(base + i as u32 + j as u32);
-    let first = positive(left[i - 1]).negated();
+    let sum = Lit::positive(base + i as u32 + j as u32);
+    let first = Lit::negative(left[i - 1]);
     if j == 0 {
         return add(clauses, &[first, sum]);
     }
-    add(clauses, &[first, positive(right[j - 1]).negated(), sum])
+    add(clauses, &[first, Lit::negative(right[j - 1]), sum])
 }
 
 // The clause that the sum is small.
@@ -63,7 +64,7 @@ fn add_down(
     requires left_in { AreVarsWithin base left.now }
     requires right_in { AreVarsWithin base right.now }
     requires room { base + length left.now + length right.now ≤ clauses.old.vars }
-    requires few { clauses.old.vars ≤ 2 ^ 31 }
+    requires few { clauses.old.vars ≤ var_limit }
     ensures vars { clauses.new.vars ≡ clauses.old.vars }
     ensures list { OnOk result (clauses.new.list ≡ clauses.old.list ++ map sorted_clause (down_clauses left.now right.now base i j)) }
     ensures err { OnErr result (clauses.new.list ≡ clauses.old.list) }
@@ -72,15 +73,15 @@ fn add_down(
         if j == right.len() {
             return Ok(());
         }
-        let sum = positive(base + i as u32 + j as u32 + 1).negated();
-        return add(clauses, &[positive(right[j]), sum]);
+        let sum = Lit::negative(base + i as u32 + j as u32 + 1);
+        return add(clauses, &[Lit::positive(right[j]), sum]);
     }
-    let sum = positive(base + i as u32 + j as u32 + 1).negated();
-    let first = positive(left[i]);
+    let sum = Lit::negative(base + i as u32 + j as u32 + 1);
+    let first = Lit::positive(left[i]);
     if j == right.len() {
         return add(clauses, &[first, sum]);
     }
-    add(clauses, &[first, positive(right[j]), sum])
+    add(clauses, &[first, Lit::positive(right[j]), sum])
 }
 
 // Both clauses at one pair of numbers.
@@ -97,7 +98,7 @@ fn add_pair(
     requires left_in { AreVarsWithin base left.now }
     requires right_in { AreVarsWithin base right.now }
     requires room { base + length left.now + length right.now ≤ clauses.old.vars }
-    requires few { clauses.old.vars ≤ 2 ^ 31 }
+    requires few { clauses.old.vars ≤ var_limit }
     ensures vars { clauses.new.vars ≡ clauses.old.vars }
     ensures list { OnOk result (clauses.new.list ≡ clauses.old.list ++ map sorted_clause (pair_clauses left.now right.now base i j)) }
     ensures err { OnErr result (Grew clauses.old clauses.new (pair_clauses left.now right.now base i j)) }
@@ -118,7 +119,7 @@ fn add_row(
     requires left_in { AreVarsWithin base left.now }
     requires right_in { AreVarsWithin base right.now }
     requires room { base + length left.now + length right.now ≤ clauses.old.vars }
-    requires few { clauses.old.vars ≤ 2 ^ 31 }
+    requires few { clauses.old.vars ≤ var_limit }
     ensures vars { clauses.new.vars ≡ clauses.old.vars }
     ensures list { OnOk result (clauses.new.list ≡ clauses.old.list ++ map sorted_clause (row_clauses left.now right.now base i)) }
     ensures err { OnErr result (Grew clauses.old clauses.new (row_clauses left.now right.now base i)) }
@@ -139,7 +140,7 @@ fn add_rows(
     requires left_in { AreVarsWithin base left.now }
     requires right_in { AreVarsWithin base right.now }
     requires room { base + length left.now + length right.now ≤ clauses.old.vars }
-    requires few { clauses.old.vars ≤ 2 ^ 31 }
+    requires few { clauses.old.vars ≤ var_limit }
     ensures vars { clauses.new.vars ≡ clauses.old.vars }
     ensures list { OnOk result (clauses.new.list ≡ clauses.old.list ++ map sorted_clause (plus_clauses left.now right.now base)) }
     ensures err { OnErr result (Grew clauses.old clauses.new (plus_clauses left.now right.now base)) }
@@ -148,23 +149,6 @@ fn add_rows(
         add_row(clauses, left, right, base, i)?;
     }
     Ok(())
-}
-
-// That many fresh variables.
-#[tactic(auto, using(crate::proofs::FreshVars::fresh_vars_next))]
-fn fresh_many(alloc: Global, clauses: &mut ClauseList, n: usize) -> Result<Vec<u32>, NoMemory>
-    requires room { clauses.old.vars + n ≤ 2 ^ 31 }
-    ensures outputs { IfOk result (λ r. r.items ≡ fresh_vars clauses.old.vars n) }
-    ensures vars { OnOk result (clauses.new.vars ≡ clauses.old.vars + n) }
-    ensures list { clauses.new.list ≡ clauses.old.list }
-    ensures more { clauses.old.vars ≤ clauses.new.vars }
-{
-    let mut outputs = Vec::with_capacity(alloc, n)?;
-    for k in 0..n {
-        let lit = clauses.fresh();
-        outputs.push(lit.var)?;
-    }
-    Ok(outputs)
 }
 
 /// The sum of two counters: appends clauses over as many fresh variables as both have outputs, and answers the
@@ -178,7 +162,7 @@ pub fn plus(
 ) -> Result<Unary, NoMemory>
     requires left_in { AreVarsWithin clauses.old.vars left.now }
     requires right_in { AreVarsWithin clauses.old.vars right.now }
-    requires room { (plus_due clauses.old.vars left.now right.now).vars ≤ 2 ^ 31 }
+    requires room { (plus_due clauses.old.vars left.now right.now).vars ≤ var_limit }
     ensures outputs { IfOk result (λ r. r ≡ (plus_due clauses.old.vars left.now right.now).outputs) }
     ensures vars { OnOk result (clauses.new.vars ≡ (plus_due clauses.old.vars left.now right.now).vars) }
     ensures list { OnOk result (clauses.new.list ≡ clauses.old.list ++ map sorted_clause (plus_due clauses.old.vars left.now right.now).clauses) }
@@ -190,7 +174,7 @@ pub fn plus(
     let left = left.outputs();
     let right = right.outputs();
     let base = clauses.vars();
-    let outputs = fresh_many(alloc, clauses, left.len() + right.len())?;
+    let outputs = clauses.fresh_vars(left.len() + right.len())?;
     add_rows(clauses, left, right, base)?;
     Ok(Unary::from_outputs(outputs))
 }
@@ -199,7 +183,7 @@ pub fn plus(
 fn total_of(alloc: Global, clauses: &mut ClauseList, parts: &[Unary]) -> Result<Unary, NoMemory>
     requires some { 1 ≤ length parts.now }
     requires parts_in { AllVarsWithin clauses.old.vars parts.now }
-    requires room { (total_due clauses.old.vars parts.now).vars ≤ 2 ^ 31 }
+    requires room { (total_due clauses.old.vars parts.now).vars ≤ var_limit }
     ensures outputs { IfOk result (λ r. r ≡ (total_due clauses.old.vars parts.now).outputs) }
     ensures vars { OnOk result (clauses.new.vars ≡ (total_due clauses.old.vars parts.now).vars) }
     ensures list { OnOk result (clauses.new.list ≡ clauses.old.list ++ map sorted_clause (total_due clauses.old.vars parts.now).clauses) }
@@ -220,7 +204,7 @@ fn total_of(alloc: Global, clauses: &mut ClauseList, parts: &[Unary]) -> Result<
 pub fn total(alloc: Global, clauses: &mut ClauseList, parts: &[Unary]) -> Result<Unary, NoMemory>
     requires some { 1 ≤ length parts.now }
     requires parts_in { AllVarsWithin clauses.old.vars parts.now }
-    requires room { (total_due clauses.old.vars parts.now).vars ≤ 2 ^ 31 }
+    requires room { (total_due clauses.old.vars parts.now).vars ≤ var_limit }
     ensures outputs { IfOk result (λ r. r ≡ (total_due clauses.old.vars parts.now).outputs) }
     ensures vars { OnOk result (clauses.new.vars ≡ (total_due clauses.old.vars parts.now).vars) }
     ensures list { OnOk result (clauses.new.list ≡ clauses.old.list ++ map sorted_clause (total_due clauses.old.vars parts.now).clauses) }

@@ -5,31 +5,35 @@ use clause_store::{ClauseList, Lit};
 use std::process::Abort;
 use std::test::Fail;
 
-fn yes(var: u32) -> Lit {
-    Lit {
-        var,
-        positive: true,
-    }
-}
-
-fn no(var: u32) -> Lit {
-    Lit {
-        var,
-        positive: false,
-    }
-}
-
 // The clauses of the sum of variables 1 and 2.
 fn assert_sum_of_two(rt: &impl Abort, clauses: &ClauseList, sum: &Unary) {
     assert_eq!(rt; sum.outputs(), [3, 4].as_slice());
     assert_eq!(rt; clauses.vars(), 4);
     assert_eq!(rt; clauses.len(), 6);
-    assert_eq!(rt; clauses.clause(0), [yes(1), yes(2), no(3)].as_slice());
-    assert_eq!(rt; clauses.clause(1), [no(2), yes(3)].as_slice());
-    assert_eq!(rt; clauses.clause(2), [yes(1), no(4)].as_slice());
-    assert_eq!(rt; clauses.clause(3), [no(1), yes(3)].as_slice());
-    assert_eq!(rt; clauses.clause(4), [yes(2), no(4)].as_slice());
-    assert_eq!(rt; clauses.clause(5), [no(1), no(2), yes(4)].as_slice());
+    assert_eq!(rt;
+        clauses.clause(0),
+        [Lit::positive(1), Lit::positive(2), Lit::negative(3)].as_slice()
+    );
+    assert_eq!(rt;
+        clauses.clause(1),
+        [Lit::negative(2), Lit::positive(3)].as_slice()
+    );
+    assert_eq!(rt;
+        clauses.clause(2),
+        [Lit::positive(1), Lit::negative(4)].as_slice()
+    );
+    assert_eq!(rt;
+        clauses.clause(3),
+        [Lit::negative(1), Lit::positive(3)].as_slice()
+    );
+    assert_eq!(rt;
+        clauses.clause(4),
+        [Lit::positive(2), Lit::negative(4)].as_slice()
+    );
+    assert_eq!(rt;
+        clauses.clause(5),
+        [Lit::negative(1), Lit::negative(2), Lit::positive(4)].as_slice()
+    );
 }
 
 #[test]
@@ -41,7 +45,7 @@ fn a_sum_of_two_has_six_clauses(rt: HostRuntime) -> Result<(), Fail> {
     let right = leaf(rt.alloc(), second.var)?;
     let sum = plus(rt.alloc(), &mut clauses, &left, &right)?;
     assert_sum_of_two(&rt, &clauses, &sum);
-    assert_eq!(rt; sum.at_least(2), yes(4));
+    assert_eq!(rt; sum.at_least(2), Lit::positive(4));
 
     let mut clauses = ClauseList::new(rt.alloc());
     let first = clauses.fresh();
@@ -62,12 +66,30 @@ fn a_part_given_twice_counts_twice(rt: HostRuntime) -> Result<(), Fail> {
     let sum = total(rt.alloc(), &mut clauses, &parts)?;
     assert_eq!(rt; sum.outputs(), [2, 3].as_slice());
     assert_eq!(rt; clauses.len(), 6);
-    assert_eq!(rt; clauses.clause(0), [yes(1), no(2)].as_slice());
-    assert_eq!(rt; clauses.clause(1), [no(1), yes(2)].as_slice());
-    assert_eq!(rt; clauses.clause(2), [yes(1), no(3)].as_slice());
-    assert_eq!(rt; clauses.clause(3), [no(1), yes(2)].as_slice());
-    assert_eq!(rt; clauses.clause(4), [yes(1), no(3)].as_slice());
-    assert_eq!(rt; clauses.clause(5), [no(1), yes(3)].as_slice());
+    assert_eq!(rt;
+        clauses.clause(0),
+        [Lit::positive(1), Lit::negative(2)].as_slice()
+    );
+    assert_eq!(rt;
+        clauses.clause(1),
+        [Lit::negative(1), Lit::positive(2)].as_slice()
+    );
+    assert_eq!(rt;
+        clauses.clause(2),
+        [Lit::positive(1), Lit::negative(3)].as_slice()
+    );
+    assert_eq!(rt;
+        clauses.clause(3),
+        [Lit::negative(1), Lit::positive(2)].as_slice()
+    );
+    assert_eq!(rt;
+        clauses.clause(4),
+        [Lit::positive(1), Lit::negative(3)].as_slice()
+    );
+    assert_eq!(rt;
+        clauses.clause(5),
+        [Lit::negative(1), Lit::positive(3)].as_slice()
+    );
     Ok(())
 }
 
@@ -80,8 +102,17 @@ fn either_of_two_has_three_clauses(rt: HostRuntime) -> Result<(), Fail> {
     assert_eq!(rt; some.outputs(), [3].as_slice());
     assert_eq!(rt; some.len(), 1);
     assert_eq!(rt; clauses.len(), 3);
-    assert_eq!(rt; clauses.clause(0), [no(1), yes(3)].as_slice());
-    assert_eq!(rt; clauses.clause(1), [no(2), yes(3)].as_slice());
-    assert_eq!(rt; clauses.clause(2), [yes(1), yes(2), no(3)].as_slice());
+    assert_eq!(rt;
+        clauses.clause(0),
+        [Lit::negative(1), Lit::positive(3)].as_slice()
+    );
+    assert_eq!(rt;
+        clauses.clause(1),
+        [Lit::negative(2), Lit::positive(3)].as_slice()
+    );
+    assert_eq!(rt;
+        clauses.clause(2),
+        [Lit::positive(1), Lit::positive(2), Lit::negative(3)].as_slice()
+    );
     Ok(())
 }

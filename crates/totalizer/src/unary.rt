@@ -2,6 +2,7 @@
 
 ghost use Rattle.std.specs.Prelude.{◌≡◌, ℕ, suc, ◌+◌, ◌-◌, ◌<◌, ◌≤◌, ◌^◌, Bool, [], ◌∷◌, IfOk, length, All, slice_index, if◌then◌else◌};
 ghost use Rattle.clause_store.specs.Lits.{positive_lit};
+ghost use Rattle.clause_store.specs.Limits.{var_limit};
 ghost use Rattle.totalizer.specs.Counter.{count_of, IsUnary, leaves};
 
 use clause_store::Lit;
@@ -16,20 +17,21 @@ pub struct Unary {
 }
 
 impl Model for Unary {
-    ghost use Rattle.std.specs.Prelude.{List, ℕ, ◌≤◌, ◌^◌, length, All};
+    ghost use Rattle.std.specs.Prelude.{List, ℕ, ◌≤◌, length, All};
+    ghost use Rattle.clause_store.specs.Limits.{var_limit};
 
     ghost Value = { List ℕ };
 
     ghost view = { λ s. s.outputs.items };
 
-    ghost invariant = { λ s. (1 ≤ length s.outputs.items) × (length s.outputs.items ≤ 2 ^ 31) × All (λ v. 1 ≤ v) s.outputs.items };
+    ghost invariant = { λ s. (1 ≤ length s.outputs.items) × (length s.outputs.items ≤ var_limit) × All (λ v. 1 ≤ v) s.outputs.items };
 }
 
 impl Unary {
     /// The counter with these outputs, made without taking memory.
     pub fn from_outputs(outputs: Vec<u32>) -> Unary
         requires some { 1 ≤ length outputs.items }
-        requires few { length outputs.items ≤ 2 ^ 31 }
+        requires few { length outputs.items ≤ var_limit }
         requires numbered { All (λ v. 1 ≤ v) outputs.items }
         ensures { result ≡ outputs.items }
     {
@@ -40,7 +42,7 @@ impl Unary {
     pub fn into_outputs(self) -> Vec<u32>
         ensures value { result.items ≡ self }
         ensures some { 1 ≤ length self }
-        ensures few { length self ≤ 2 ^ 31 }
+        ensures few { length self ≤ var_limit }
         ensures numbered { All (λ v. 1 ≤ v) self }
     {
         let Unary { outputs } = self;
@@ -62,17 +64,14 @@ impl Unary {
         requires high { k ≤ length self.now }
         ensures { result ≡ positive_lit (slice_index self.now (k - 1)) }
     {
-        Lit {
-            var: self.outputs[k as usize - 1],
-            positive: true,
-        }
+        Lit::positive(self.outputs[k as usize - 1])
     }
 
     /// The outputs in order.
     pub fn outputs(&self) -> &[u32]
         ensures value { result.now ≡ self.now }
         ensures some { 1 ≤ length self.now }
-        ensures few { length self.now ≤ 2 ^ 31 }
+        ensures few { length self.now ≤ var_limit }
     {
         self.outputs.as_slice()
     }

@@ -1,5 +1,6 @@
 ghost use Rattle.std.specs.Prelude.{◌≡◌, ◌≤◌, ◌<◌, ◌++◌, ◌∷◌, [], length, map, filter, All, IfOk, OnOk};
 ghost use Rattle.formulas.specs.Formulas.{holds, width_of};
+ghost use Rattle.formulas.specs.Limits.{valuation_limit};
 ghost use Rattle.merge_model.specs.Merging.{models_of};
 
 use crate::{Agent, Sequence};
@@ -7,9 +8,10 @@ use edge::NoMemory;
 use formulas::{Formula, Valuation};
 use std::alloc::Global;
 
-/// The models of a formula over fewer than 64 atoms, in rising order; `NoMemory` for want of it.
+/// The models of a formula over fewer than `valuation_limit` atoms, in rising order; `NoMemory` for
+/// want of it.
 pub fn models(alloc: Global, formula: &Formula, atoms: u32) -> Result<Vec<Valuation>, NoMemory>
-    requires few { atoms < 64 }
+    requires few { atoms < valuation_limit }
     requires within { width_of formula.now ≤ atoms }
     ensures { IfOk result (λ models. models.items ≡ models_of atoms formula.now) }
 {
@@ -41,7 +43,7 @@ pub fn base_models(
     agents: &[Agent],
     atoms: u32,
 ) -> Result<Vec<Sequence<Valuation>>, NoMemory>
-    requires few { atoms < 64 }
+    requires few { atoms < valuation_limit }
     requires within { All (λ agent. width_of agent.base ≤ atoms) agents.now }
     ensures { IfOk result (λ tables. tables.items ≡ map (models_of atoms) (map (λ agent. agent.base) agents.now)) }
 {

@@ -1,4 +1,4 @@
-use Rattle.std.proofs.Common.{◌≡◌, ◌+◌, ◌++◌}
+use Rattle.std.proofs.Common.{◌≡◌, ◌++◌}
 use Rattle.std.specs.Prelude.{map}
 use Rattle.clause_store.specs.Lits.{sorted_clause}
 use Rattle.totalizer.specs.Joined.{joined_blocks}
@@ -7,6 +7,6 @@ use Rattle.agent_copies.proofs.difference.add_differences.Given as goal
 
 abbrev pub invariant-loop-i : goal.invariant-loop-i
 invariant-loop-i l = record {
-  vars : l.clauses.vars ≡ l.initial.clauses.vars + l.i;
-  list : l.clauses.list ≡ l.initial.clauses.list ++ map sorted_clause (joined_blocks (difference_at l.initial.clauses.vars l.shared l.own) l.i);
+  vars : l.clauses.vars ≡ l.initial.clauses.vars;
+  list : l.clauses.list ≡ l.initial.clauses.list ++ map sorted_clause (joined_blocks (difference_at l.base l.shared l.own) l.i);
 }

@@ -1,8 +1,8 @@
 use Rattle.std.proofs.Common.{refl, sym, ◌∙◌, subst, arith}
 use Rattle.clause_store.proofs.Grows.{grew_none}
+use Rattle.clause_store.proofs.Outcomes.{on_err}
 use Rattle.totalizer.specs.Counter.{AreVarsWithin}
 use Rattle.totalizer.specs.Either.{either_due}
-use Rattle.totalizer.proofs.Steps.{on_err}
 use Rattle.aggregators.specs.Levels.{column}
 use Rattle.aggregators.proofs.Steps.{within_long}
 use Rattle.aggregators.proofs.maximum.add_output.Goals as goal

@@ -2,13 +2,14 @@ use Rattle.std.proofs.Common.{◌≡◌, ◌+◌, [], ◌∷◌, ◌++◌, sym, 
 use Rattle.std.specs.Prelude.{map}
 use Rattle.clause_store.specs.Lits.{sorted_clause}
 use Rattle.clause_store.specs.Grew.{Grew}
-use Rattle.totalizer.specs.Counter.{fresh_vars}
+use Rattle.clause_store.specs.Fresh.{fresh_vars}
+use Rattle.clause_store.proofs.Fresh.{fresh_vars_next}
+use Rattle.clause_store.proofs.Outcomes.{on_err}
+use Rattle.clause_store.proofs.Grows.{grew_whole}
 use Rattle.totalizer.specs.Either.{either_due}
-use Rattle.totalizer.proofs.FreshVars.{fresh_vars_next}
-use Rattle.totalizer.proofs.Steps.{on_err, joined_more, joined_grew}
+use Rattle.totalizer.proofs.Steps.{joined_more, joined_grew}
 use Rattle.totalizer.proofs.Totals.{more_all}
 use Rattle.aggregators.specs.Levels.{column, output_clauses}
-use Rattle.aggregators.proofs.Steps.{grew_whole}
 use Rattle.aggregators.proofs.maximum.add_outputs.Goals as goal
 
 pub add_output-requires-clause-within : goal.add_output-requires-clause-within

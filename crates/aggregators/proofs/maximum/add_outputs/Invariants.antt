@@ -1,8 +1,8 @@
 use Rattle.std.proofs.Common.{◌≡◌, ◌+◌, ◌++◌}
 use Rattle.std.specs.Prelude.{map}
 use Rattle.clause_store.specs.Lits.{sorted_clause}
+use Rattle.clause_store.specs.Fresh.{fresh_vars}
 use Rattle.totalizer.specs.Joined.{joined_blocks}
-use Rattle.totalizer.specs.Counter.{fresh_vars}
 use Rattle.aggregators.specs.Levels.{output_clauses}
 use Rattle.aggregators.proofs.maximum.add_outputs.Given as goal
 

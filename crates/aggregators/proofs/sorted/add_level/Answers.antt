@@ -1,11 +1,12 @@
 use Rattle.std.proofs.Common.{◌≤◌, ◌^◌, refl, sym, ap, ◌∙◌, subst, arith, All}
 use Rattle.clause_store.proofs.Grows.{grew_none}
+use Rattle.clause_store.proofs.Outcomes.{on_err}
+use Rattle.clause_store.specs.Limits.{var_limit}
 use Rattle.totalizer.specs.Counter.{AllVarsWithin, leaves}
 use Rattle.totalizer.specs.Total.{total_due}
 use Rattle.totalizer.proofs.Sizes.{leaves_within}
-use Rattle.totalizer.proofs.Steps.{on_err}
 use Rattle.aggregators.specs.Levels.{column}
-use Rattle.aggregators.proofs.Steps.{within_long, positive, level_room}
+use Rattle.aggregators.proofs.Steps.{within_long, positive, level_grows}
 use Rattle.aggregators.proofs.sorted.add_level.Goals as goal
 
 pub returns-in_err-outputs-clause-err : goal.returns-in_err-outputs-clause-err
@@ -31,4 +32,4 @@ pub total-requires-clause-room : goal.total-requires-clause-room
 total-requires-clause-room c =
     let items = c.deref.ensures.value ∙ c.in_ok-outputs.ensures in
     let ones = c.deref-2.ensures.value ∙ c.in_ok-ones.ensures ∙ ap leaves items in
-    subst (λ ps. (total_due c.args.clauses.now.vars ps).vars ≤ 2 ^ 31) (sym ones) (omega (arith, level_room c.args.clauses.now.vars c.args.k c.args.parts.now c.requires.some c.requires.few, c.requires.room))
+    subst (λ ps. (total_due c.args.clauses.now.vars ps).vars ≤ var_limit) (sym ones) (omega (arith, level_grows c.args.clauses.now.vars c.args.k c.args.parts.now c.requires.some c.requires.few, c.requires.room))

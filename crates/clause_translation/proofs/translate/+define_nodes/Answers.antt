@@ -1,7 +1,9 @@
 -- Each exit of the walk, by the lemmas on parts.
 use Rattle.std.proofs.Common.{refl, arith}
+use Rattle.std.proofs.lemmas.Result.{on_ok_weaker, on_err_weaker}
+use Rattle.clause_store.proofs.Outcomes.{on_err}
 use Rattle.clause_translation.specs.Definition.{not_clauses, and_clauses, or_clauses, implies_clauses, iff_clauses}
-use Rattle.clause_translation.proofs.Parts.{root_is, part_within, atom_list, atom_grew, on_err, map_ok, map_err, not_parts, and_parts, or_parts, implies_parts, iff_parts, part_grew, one_grew, one_list, left_grew, right_room, right_known, right_range, right_grew, node_room, left_within, right_within, two_grew, two_list}
+use Rattle.clause_translation.proofs.Parts.{root_is, part_within, atom_list, atom_grew, not_parts, and_parts, or_parts, implies_parts, iff_parts, part_grew, one_grew, one_list, left_grew, right_room, right_known, right_range, right_grew, node_room, left_within, right_within, two_grew, two_list}
 use Rattle.clause_translation.proofs.translate.+define_nodes.Goals as goal
 
 pub returns-in_err-left-in-And-clause-err : goal.returns-in_err-left-in-And-clause-err
@@ -45,12 +47,12 @@ and_node-requires-clause-right t c =
 pub returns-in_ok-right-in-And-clause-list : goal.returns-in_ok-right-in-And-clause-list
 returns-in_ok-right-in-And-clause-list t c =
     let is = and_parts c.args.formula.now c.get-in-And.result.now c.get-in-And-2.result.now c.in-And.left c.in-And.right c.in-And.is c.get-in-And.ensures c.get-in-And-2.ensures in
-    map_ok c.and_node.result (two_list and_clauses c.args.formula.now c.get-in-And.result.now c.get-in-And-2.result.now c.args.atoms.now c.args.clauses.now is c.define_nodes-in-And.new.clauses c.in_ok-left-in-And.ensures.list c.in_ok-left-in-And.ensures.vars c.define_nodes-in-And-2.new.clauses c.in_ok-left-in-And.left c.in_ok-right-in-And.right c.in_ok-right-in-And.ensures.list c.in_ok-right-in-And.ensures.vars c.in_ok-left-in-And.ensures.root c.in_ok-right-in-And.ensures.root c.and_node.new.clauses) c.and_node.ensures.list
+    on_ok_weaker c.and_node.result (two_list and_clauses c.args.formula.now c.get-in-And.result.now c.get-in-And-2.result.now c.args.atoms.now c.args.clauses.now is c.define_nodes-in-And.new.clauses c.in_ok-left-in-And.ensures.list c.in_ok-left-in-And.ensures.vars c.define_nodes-in-And-2.new.clauses c.in_ok-left-in-And.left c.in_ok-right-in-And.right c.in_ok-right-in-And.ensures.list c.in_ok-right-in-And.ensures.vars c.in_ok-left-in-And.ensures.root c.in_ok-right-in-And.ensures.root c.and_node.new.clauses) c.and_node.ensures.list
 
 pub returns-in_ok-right-in-And-clause-err : goal.returns-in_ok-right-in-And-clause-err
 returns-in_ok-right-in-And-clause-err t c =
     let is = and_parts c.args.formula.now c.get-in-And.result.now c.get-in-And-2.result.now c.in-And.left c.in-And.right c.in-And.is c.get-in-And.ensures c.get-in-And-2.ensures in
-    map_err c.and_node.result (two_grew and_clauses c.args.formula.now c.get-in-And.result.now c.get-in-And-2.result.now c.args.atoms.now c.args.clauses.now is c.define_nodes-in-And.new.clauses c.in_ok-left-in-And.ensures.list c.in_ok-left-in-And.ensures.vars c.define_nodes-in-And-2.new.clauses c.in_ok-left-in-And.left c.in_ok-right-in-And.right c.in_ok-right-in-And.ensures.list c.in_ok-right-in-And.ensures.vars c.in_ok-left-in-And.ensures.root c.in_ok-right-in-And.ensures.root c.and_node.new.clauses) c.and_node.ensures.err
+    on_err_weaker c.and_node.result (two_grew and_clauses c.args.formula.now c.get-in-And.result.now c.get-in-And-2.result.now c.args.atoms.now c.args.clauses.now is c.define_nodes-in-And.new.clauses c.in_ok-left-in-And.ensures.list c.in_ok-left-in-And.ensures.vars c.define_nodes-in-And-2.new.clauses c.in_ok-left-in-And.left c.in_ok-right-in-And.right c.in_ok-right-in-And.ensures.list c.in_ok-right-in-And.ensures.vars c.in_ok-left-in-And.ensures.root c.in_ok-right-in-And.ensures.root c.and_node.new.clauses) c.and_node.ensures.err
 
 pub returns-in_err-left-in-Or-clause-err : goal.returns-in_err-left-in-Or-clause-err
 returns-in_err-left-in-Or-clause-err t c =
@@ -93,12 +95,12 @@ or_node-requires-clause-right t c =
 pub returns-in_ok-right-in-Or-clause-list : goal.returns-in_ok-right-in-Or-clause-list
 returns-in_ok-right-in-Or-clause-list t c =
     let is = or_parts c.args.formula.now c.get-in-Or.result.now c.get-in-Or-2.result.now c.in-Or.left c.in-Or.right c.in-Or.is c.get-in-Or.ensures c.get-in-Or-2.ensures in
-    map_ok c.or_node.result (two_list or_clauses c.args.formula.now c.get-in-Or.result.now c.get-in-Or-2.result.now c.args.atoms.now c.args.clauses.now is c.define_nodes-in-Or.new.clauses c.in_ok-left-in-Or.ensures.list c.in_ok-left-in-Or.ensures.vars c.define_nodes-in-Or-2.new.clauses c.in_ok-left-in-Or.left c.in_ok-right-in-Or.right c.in_ok-right-in-Or.ensures.list c.in_ok-right-in-Or.ensures.vars c.in_ok-left-in-Or.ensures.root c.in_ok-right-in-Or.ensures.root c.or_node.new.clauses) c.or_node.ensures.list
+    on_ok_weaker c.or_node.result (two_list or_clauses c.args.formula.now c.get-in-Or.result.now c.get-in-Or-2.result.now c.args.atoms.now c.args.clauses.now is c.define_nodes-in-Or.new.clauses c.in_ok-left-in-Or.ensures.list c.in_ok-left-in-Or.ensures.vars c.define_nodes-in-Or-2.new.clauses c.in_ok-left-in-Or.left c.in_ok-right-in-Or.right c.in_ok-right-in-Or.ensures.list c.in_ok-right-in-Or.ensures.vars c.in_ok-left-in-Or.ensures.root c.in_ok-right-in-Or.ensures.root c.or_node.new.clauses) c.or_node.ensures.list
 
 pub returns-in_ok-right-in-Or-clause-err : goal.returns-in_ok-right-in-Or-clause-err
 returns-in_ok-right-in-Or-clause-err t c =
     let is = or_parts c.args.formula.now c.get-in-Or.result.now c.get-in-Or-2.result.now c.in-Or.left c.in-Or.right c.in-Or.is c.get-in-Or.ensures c.get-in-Or-2.ensures in
-    map_err c.or_node.result (two_grew or_clauses c.args.formula.now c.get-in-Or.result.now c.get-in-Or-2.result.now c.args.atoms.now c.args.clauses.now is c.define_nodes-in-Or.new.clauses c.in_ok-left-in-Or.ensures.list c.in_ok-left-in-Or.ensures.vars c.define_nodes-in-Or-2.new.clauses c.in_ok-left-in-Or.left c.in_ok-right-in-Or.right c.in_ok-right-in-Or.ensures.list c.in_ok-right-in-Or.ensures.vars c.in_ok-left-in-Or.ensures.root c.in_ok-right-in-Or.ensures.root c.or_node.new.clauses) c.or_node.ensures.err
+    on_err_weaker c.or_node.result (two_grew or_clauses c.args.formula.now c.get-in-Or.result.now c.get-in-Or-2.result.now c.args.atoms.now c.args.clauses.now is c.define_nodes-in-Or.new.clauses c.in_ok-left-in-Or.ensures.list c.in_ok-left-in-Or.ensures.vars c.define_nodes-in-Or-2.new.clauses c.in_ok-left-in-Or.left c.in_ok-right-in-Or.right c.in_ok-right-in-Or.ensures.list c.in_ok-right-in-Or.ensures.vars c.in_ok-left-in-Or.ensures.root c.in_ok-right-in-Or.ensures.root c.or_node.new.clauses) c.or_node.ensures.err
 
 pub returns-in_err-left-in-Implies-clause-err : goal.returns-in_err-left-in-Implies-clause-err
 returns-in_err-left-in-Implies-clause-err t c =
@@ -141,12 +143,12 @@ implies_node-requires-clause-right t c =
 pub returns-in_ok-right-in-Implies-clause-list : goal.returns-in_ok-right-in-Implies-clause-list
 returns-in_ok-right-in-Implies-clause-list t c =
     let is = implies_parts c.args.formula.now c.get-in-Implies.result.now c.get-in-Implies-2.result.now c.in-Implies.left c.in-Implies.right c.in-Implies.is c.get-in-Implies.ensures c.get-in-Implies-2.ensures in
-    map_ok c.implies_node.result (two_list implies_clauses c.args.formula.now c.get-in-Implies.result.now c.get-in-Implies-2.result.now c.args.atoms.now c.args.clauses.now is c.define_nodes-in-Implies.new.clauses c.in_ok-left-in-Implies.ensures.list c.in_ok-left-in-Implies.ensures.vars c.define_nodes-in-Implies-2.new.clauses c.in_ok-left-in-Implies.left c.in_ok-right-in-Implies.right c.in_ok-right-in-Implies.ensures.list c.in_ok-right-in-Implies.ensures.vars c.in_ok-left-in-Implies.ensures.root c.in_ok-right-in-Implies.ensures.root c.implies_node.new.clauses) c.implies_node.ensures.list
+    on_ok_weaker c.implies_node.result (two_list implies_clauses c.args.formula.now c.get-in-Implies.result.now c.get-in-Implies-2.result.now c.args.atoms.now c.args.clauses.now is c.define_nodes-in-Implies.new.clauses c.in_ok-left-in-Implies.ensures.list c.in_ok-left-in-Implies.ensures.vars c.define_nodes-in-Implies-2.new.clauses c.in_ok-left-in-Implies.left c.in_ok-right-in-Implies.right c.in_ok-right-in-Implies.ensures.list c.in_ok-right-in-Implies.ensures.vars c.in_ok-left-in-Implies.ensures.root c.in_ok-right-in-Implies.ensures.root c.implies_node.new.clauses) c.implies_node.ensures.list
 
 pub returns-in_ok-right-in-Implies-clause-err : goal.returns-in_ok-right-in-Implies-clause-err
 returns-in_ok-right-in-Implies-clause-err t c =
     let is = implies_parts c.args.formula.now c.get-in-Implies.result.now c.get-in-Implies-2.result.now c.in-Implies.left c.in-Implies.right c.in-Implies.is c.get-in-Implies.ensures c.get-in-Implies-2.ensures in
-    map_err c.implies_node.result (two_grew implies_clauses c.args.formula.now c.get-in-Implies.result.now c.get-in-Implies-2.result.now c.args.atoms.now c.args.clauses.now is c.define_nodes-in-Implies.new.clauses c.in_ok-left-in-Implies.ensures.list c.in_ok-left-in-Implies.ensures.vars c.define_nodes-in-Implies-2.new.clauses c.in_ok-left-in-Implies.left c.in_ok-right-in-Implies.right c.in_ok-right-in-Implies.ensures.list c.in_ok-right-in-Implies.ensures.vars c.in_ok-left-in-Implies.ensures.root c.in_ok-right-in-Implies.ensures.root c.implies_node.new.clauses) c.implies_node.ensures.err
+    on_err_weaker c.implies_node.result (two_grew implies_clauses c.args.formula.now c.get-in-Implies.result.now c.get-in-Implies-2.result.now c.args.atoms.now c.args.clauses.now is c.define_nodes-in-Implies.new.clauses c.in_ok-left-in-Implies.ensures.list c.in_ok-left-in-Implies.ensures.vars c.define_nodes-in-Implies-2.new.clauses c.in_ok-left-in-Implies.left c.in_ok-right-in-Implies.right c.in_ok-right-in-Implies.ensures.list c.in_ok-right-in-Implies.ensures.vars c.in_ok-left-in-Implies.ensures.root c.in_ok-right-in-Implies.ensures.root c.implies_node.new.clauses) c.implies_node.ensures.err
 
 pub returns-in_err-left-in-Iff-clause-err : goal.returns-in_err-left-in-Iff-clause-err
 returns-in_err-left-in-Iff-clause-err t c =
@@ -189,12 +191,12 @@ iff_node-requires-clause-right t c =
 pub returns-in_ok-right-in-Iff-clause-list : goal.returns-in_ok-right-in-Iff-clause-list
 returns-in_ok-right-in-Iff-clause-list t c =
     let is = iff_parts c.args.formula.now c.get-in-Iff.result.now c.get-in-Iff-2.result.now c.in-Iff.left c.in-Iff.right c.in-Iff.is c.get-in-Iff.ensures c.get-in-Iff-2.ensures in
-    map_ok c.iff_node.result (two_list iff_clauses c.args.formula.now c.get-in-Iff.result.now c.get-in-Iff-2.result.now c.args.atoms.now c.args.clauses.now is c.define_nodes-in-Iff.new.clauses c.in_ok-left-in-Iff.ensures.list c.in_ok-left-in-Iff.ensures.vars c.define_nodes-in-Iff-2.new.clauses c.in_ok-left-in-Iff.left c.in_ok-right-in-Iff.right c.in_ok-right-in-Iff.ensures.list c.in_ok-right-in-Iff.ensures.vars c.in_ok-left-in-Iff.ensures.root c.in_ok-right-in-Iff.ensures.root c.iff_node.new.clauses) c.iff_node.ensures.list
+    on_ok_weaker c.iff_node.result (two_list iff_clauses c.args.formula.now c.get-in-Iff.result.now c.get-in-Iff-2.result.now c.args.atoms.now c.args.clauses.now is c.define_nodes-in-Iff.new.clauses c.in_ok-left-in-Iff.ensures.list c.in_ok-left-in-Iff.ensures.vars c.define_nodes-in-Iff-2.new.clauses c.in_ok-left-in-Iff.left c.in_ok-right-in-Iff.right c.in_ok-right-in-Iff.ensures.list c.in_ok-right-in-Iff.ensures.vars c.in_ok-left-in-Iff.ensures.root c.in_ok-right-in-Iff.ensures.root c.iff_node.new.clauses) c.iff_node.ensures.list
 
 pub returns-in_ok-right-in-Iff-clause-err : goal.returns-in_ok-right-in-Iff-clause-err
 returns-in_ok-right-in-Iff-clause-err t c =
     let is = iff_parts c.args.formula.now c.get-in-Iff.result.now c.get-in-Iff-2.result.now c.in-Iff.left c.in-Iff.right c.in-Iff.is c.get-in-Iff.ensures c.get-in-Iff-2.ensures in
-    map_err c.iff_node.result (two_grew iff_clauses c.args.formula.now c.get-in-Iff.result.now c.get-in-Iff-2.result.now c.args.atoms.now c.args.clauses.now is c.define_nodes-in-Iff.new.clauses c.in_ok-left-in-Iff.ensures.list c.in_ok-left-in-Iff.ensures.vars c.define_nodes-in-Iff-2.new.clauses c.in_ok-left-in-Iff.left c.in_ok-right-in-Iff.right c.in_ok-right-in-Iff.ensures.list c.in_ok-right-in-Iff.ensures.vars c.in_ok-left-in-Iff.ensures.root c.in_ok-right-in-Iff.ensures.root c.iff_node.new.clauses) c.iff_node.ensures.err
+    on_err_weaker c.iff_node.result (two_grew iff_clauses c.args.formula.now c.get-in-Iff.result.now c.get-in-Iff-2.result.now c.args.atoms.now c.args.clauses.now is c.define_nodes-in-Iff.new.clauses c.in_ok-left-in-Iff.ensures.list c.in_ok-left-in-Iff.ensures.vars c.define_nodes-in-Iff-2.new.clauses c.in_ok-left-in-Iff.left c.in_ok-right-in-Iff.right c.in_ok-right-in-Iff.ensures.list c.in_ok-right-in-Iff.ensures.vars c.in_ok-left-in-Iff.ensures.root c.in_ok-right-in-Iff.ensures.root c.iff_node.new.clauses) c.iff_node.ensures.err
 
 pub define_nodes-requires : goal.define_nodes-requires
 define_nodes-requires t c =
@@ -218,17 +220,17 @@ not_node-requires-clause-part t c =
 pub returns-in_ok-part-in-Not-clause-list : goal.returns-in_ok-part-in-Not-clause-list
 returns-in_ok-part-in-Not-clause-list t c =
     let is = not_parts c.args.formula.now c.get.result.now c.in-Not.part c.in-Not.is c.get.ensures in
-    map_ok c.not_node.result (one_list not_clauses c.args.formula.now c.get.result.now c.args.atoms.now c.args.clauses.now is c.define_nodes.new.clauses c.in_ok-part-in-Not.part c.in_ok-part-in-Not.ensures.list c.in_ok-part-in-Not.ensures.vars c.in_ok-part-in-Not.ensures.root c.not_node.new.clauses) c.not_node.ensures.list
+    on_ok_weaker c.not_node.result (one_list not_clauses c.args.formula.now c.get.result.now c.args.atoms.now c.args.clauses.now is c.define_nodes.new.clauses c.in_ok-part-in-Not.part c.in_ok-part-in-Not.ensures.list c.in_ok-part-in-Not.ensures.vars c.in_ok-part-in-Not.ensures.root c.not_node.new.clauses) c.not_node.ensures.list
 
 pub returns-in_ok-part-in-Not-clause-err : goal.returns-in_ok-part-in-Not-clause-err
 returns-in_ok-part-in-Not-clause-err t c =
     let is = not_parts c.args.formula.now c.get.result.now c.in-Not.part c.in-Not.is c.get.ensures in
-    map_err c.not_node.result (one_grew not_clauses c.args.formula.now c.get.result.now c.args.atoms.now c.args.clauses.now is c.define_nodes.new.clauses c.in_ok-part-in-Not.part c.in_ok-part-in-Not.ensures.list c.in_ok-part-in-Not.ensures.vars c.in_ok-part-in-Not.ensures.root c.not_node.new.clauses) c.not_node.ensures.err
+    on_err_weaker c.not_node.result (one_grew not_clauses c.args.formula.now c.get.result.now c.args.atoms.now c.args.clauses.now is c.define_nodes.new.clauses c.in_ok-part-in-Not.part c.in_ok-part-in-Not.ensures.list c.in_ok-part-in-Not.ensures.vars c.in_ok-part-in-Not.ensures.root c.not_node.new.clauses) c.not_node.ensures.err
 
 pub returns-in-Atom-clause-list : goal.returns-in-Atom-clause-list
 returns-in-Atom-clause-list t c =
-    map_ok c.atom_node.result (atom_list c.args.atoms.now c.args.formula.now c.in-Atom.k _ c.args.clauses.now c.atom_node.new.clauses c.in-Atom.is c.requires.known) c.atom_node.ensures.list
+    on_ok_weaker c.atom_node.result (atom_list c.args.atoms.now c.args.formula.now c.in-Atom.k _ c.args.clauses.now c.atom_node.new.clauses c.in-Atom.is c.requires.known) c.atom_node.ensures.list
 
 pub returns-in-Atom-clause-err : goal.returns-in-Atom-clause-err
 returns-in-Atom-clause-err t c =
-    map_err c.atom_node.result (atom_grew c.args.atoms.now c.args.formula.now c.in-Atom.k _ c.args.clauses.now c.atom_node.new.clauses c.in-Atom.is c.requires.known) c.atom_node.ensures.err
+    on_err_weaker c.atom_node.result (atom_grew c.args.atoms.now c.args.formula.now c.in-Atom.k _ c.args.clauses.now c.atom_node.new.clauses c.in-Atom.is c.requires.known) c.atom_node.ensures.err

@@ -1,18 +1,12 @@
 use Rattle.std.proofs.Common.{◌≡◌, ◌≢◌, ◌≤◌, ℕ, List, true, false, refl, sym, ◌∙◌, subst, arith, inl, inr}
-use Rattle.formulas.specs.Formulas.{depth_of}
 use Rattle.formulas.specs.declared.formula.Formula.{Formula}
-use Rattle.line_tokens.specs.Lexemes.{Lexeme, lexemes_of}
+use Rattle.line_tokens.specs.Lexemes.{lexemes_of}
 use Rattle.formula_grammar.specs.declared.read.FormulaStop.{FormulaStop}
 use Rattle.formula_grammar.specs.declared.read.FormulaStop.TheVariants.{BadByte, BadForm, UnknownAtom, TooDeep, NoMemory}
 use Rattle.formula_grammar.specs.Readings.{IsTextRead, IsTextStop, IsTooDeep}
-use Rattle.formula_grammar.specs.Symbols.{most_open}
-use Rattle.formula_grammar.proofs.Choice.{text_choice}
+use Rattle.formula_grammar.proofs.Choice.{text_choice, not_deep}
 use Rattle.formula_grammar.proofs.Complete.{one_formula}
 use Rattle.formula_grammar.proofs.laws.each_text_has_one_outcome.Goals as goal
-
-not_deep : (ts : List Lexeme) (f : Formula) → depth_of f ≤ 128 → most_open 0 ts ≤ 128 → IsTooDeep ts f → ⊥
-not_deep ts f d o (inl h) = absurd (omega (arith, d, h))
-not_deep ts f d o (inr h) = absurd (omega (arith, o, h))
 
 stopped : (atoms : List (List ℕ)) (text : List ℕ) (f : Formula) (stop : FormulaStop) → IsTextRead atoms text f → IsTextStop atoms text stop → stop ≡ NoMemory
 stopped atoms text f BadByte is h = let both : true ≡ false = sym h ∙ is.good in absurd (cc)

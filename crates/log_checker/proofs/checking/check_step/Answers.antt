@@ -3,7 +3,8 @@ use Rattle.std.specs.List.{AllByRecursion}
 use Rattle.derivation_log.specs.declared.step.Link.{Link}
 use Rattle.log_checker.specs.Verdicts.{are_below, chain_from, Ends}
 use Rattle.clause_store.specs.Clauses.{clause_at}
-use Rattle.log_checker.proofs.Chains.{step_below, not_below, answer_follows, answer_other, answer_err, verdict_ends, no_both, same_not, same_yes}
+use Rattle.clause_store.proofs.Truths.{not_both}
+use Rattle.log_checker.proofs.Chains.{step_below, not_below, answer_follows, answer_other, answer_err, verdict_ends, same_not, same_yes}
 use Rattle.log_checker.proofs.checking.check_step.Goals as goal
 
 pub returns-then-not-are_numbers_below-clause-answer : goal.returns-then-not-are_numbers_below-clause-answer
@@ -26,7 +27,7 @@ returns-then-not-are_same-clause-answer c =
     let step = c.args.step.now in
     let b : are_below (length known) step ≡ true = (let e = c.are_numbers_below.ensures in let f = c.len.ensures.len in let g = c.if-not-are_numbers_below.false in cc) in
     let end = subst (λ (ls : List Link). chain_from known 0 (clause_at known step.first) ls ≡ Ends c.in_ok-end.end) c.as_slice.ensures c.in_ok-end.ensures in
-    answer_other known step c.in_ok-end.end b end (λ (e : c.in_ok-end.end ≡ step.clause). no_both c.are_same.result (c.are_same.ensures.1 (c.lits.ensures.value ∙ e ∙ sym c.lits-2.ensures.value)) c.if-not-are_same.true)
+    answer_other known step c.in_ok-end.end b end (λ (e : c.in_ok-end.end ≡ step.clause). not_both c.are_same.result (c.are_same.ensures.1 (c.lits.ensures.value ∙ e ∙ sym c.lits-2.ensures.value)) c.if-not-are_same.true)
 
 pub returns-then-not-are_same-clause-verdict : goal.returns-then-not-are_same-clause-verdict
 returns-then-not-are_same-clause-verdict c = λ n.
@@ -34,7 +35,7 @@ returns-then-not-are_same-clause-verdict c = λ n.
     let step = c.args.step.now in
     let b : are_below (length known) step ≡ true = (let e = c.are_numbers_below.ensures in let f = c.len.ensures.len in let g = c.if-not-are_numbers_below.false in cc) in
     let end = subst (λ (ls : List Link). chain_from known 0 (clause_at known step.first) ls ≡ Ends c.in_ok-end.end) c.as_slice.ensures c.in_ok-end.ensures in
-    verdict_ends known step c.in_ok-end.end false b end (same_not c.in_ok-end.end step.clause (λ (e : c.in_ok-end.end ≡ step.clause). no_both c.are_same.result (c.are_same.ensures.1 (c.lits.ensures.value ∙ e ∙ sym c.lits-2.ensures.value)) c.if-not-are_same.true))
+    verdict_ends known step c.in_ok-end.end false b end (same_not c.in_ok-end.end step.clause (λ (e : c.in_ok-end.end ≡ step.clause). not_both c.are_same.result (c.are_same.ensures.1 (c.lits.ensures.value ∙ e ∙ sym c.lits-2.ensures.value)) c.if-not-are_same.true))
 
 pub returns-clause-answer : goal.returns-clause-answer
 returns-clause-answer c =

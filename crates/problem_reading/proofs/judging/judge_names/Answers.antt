@@ -2,6 +2,7 @@ use Rattle.std.proofs.Common.{◌≡◌, ◌+◌, ◌≤◌, ◌<◌, ℕ, Bool,
 use Rattle.std.proofs.lemmas.Bool.Decides.{nat_tests}
 use Rattle.std.proofs.lemmas.List.{length-map}
 use Rattle.formulas.specs.Names.{are_distinct}
+use Rattle.formulas.specs.Limits.{atom_limit}
 use Rattle.line_tokens.specs.Lexemes.{lexeme_of}
 use Rattle.problem_lines.specs.Forms.{words_of}
 use Rattle.problem_reading.proofs.NameLists.{joined_names, all_names, word_count}
@@ -10,10 +11,10 @@ use Rattle.problem_reading.proofs.judging.judge_names.Goals as goal
 no_twice : (d t : Bool) → d ≡ true → t ≡ false → (not d || t) ≡ false
 no_twice d t e h = grind arith
 
-over_count : (n k : ℕ) (long : Bool) → 32 < n + k → (nat_lt 32 (n + k) || long) ≡ true
+over_count : (n k : ℕ) (long : Bool) → atom_limit < n + k → (nat_lt atom_limit (n + k) || long) ≡ true
 over_count n k long h = grind (arith, nat_tests)
 
-within_count : (n k : ℕ) (long : Bool) → n + k ≤ 32 → long ≡ false → (nat_lt 32 (n + k) || long) ≡ false
+within_count : (n k : ℕ) (long : Bool) → n + k ≤ atom_limit → long ≡ false → (nat_lt atom_limit (n + k) || long) ≡ false
 within_count n k long h e = grind (arith, nat_tests)
 
 pub returns-then-tokens-len-clause-stop : goal.returns-then-tokens-len-clause-stop

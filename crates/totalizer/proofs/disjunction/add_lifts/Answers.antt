@@ -1,5 +1,5 @@
 use Rattle.std.proofs.Common.{arith}
-use Rattle.totalizer.proofs.Steps.{on_err}
+use Rattle.clause_store.proofs.Outcomes.{on_err}
 use Rattle.totalizer.proofs.Disjunctions.{lifts_grew}
 use Rattle.totalizer.proofs.disjunction.add_lifts.Goals as goal
 

@@ -4,8 +4,8 @@ use Rattle.clause_store.specs.Lits.{InRange}
 use Rattle.clause_store.proofs.Grows.{grew_none}
 use Rattle.std.specs.Prelude.{map}
 use Rattle.clause_store.specs.Grew.{Grew}
+use Rattle.clause_store.proofs.Outcomes.{on_err}
 use Rattle.totalizer.specs.Either.{lifts, needs_one, either_due}
-use Rattle.totalizer.proofs.Steps.{on_err}
 use Rattle.totalizer.proofs.Law.{more_vars}
 use Rattle.totalizer.proofs.Disjunctions.{either_is, either_grew, needs_within}
 use Rattle.totalizer.proofs.disjunction.either.Goals as goal

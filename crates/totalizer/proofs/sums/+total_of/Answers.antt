@@ -1,7 +1,6 @@
 use Rattle.std.proofs.Common.{◌∙◌, arith}
-use Rattle.totalizer.specs.Total.{total_due}
-use Rattle.totalizer.specs.Plus.{plus_due}
-use Rattle.totalizer.proofs.Steps.{on_err, map_ok, map_err, same_ok}
+use Rattle.std.proofs.lemmas.Result.{on_ok_weaker, on_err_weaker, IfOk-weaker}
+use Rattle.clause_store.proofs.Outcomes.{on_err}
 use Rattle.totalizer.proofs.Totals.{front_some, back_some, front_in, front_room, back_in, back_room, front_grew, back_grew, left_in, right_in, both_room, both_vars, both_outputs, both_list, both_grew}
 use Rattle.totalizer.proofs.sums.+total_of.Goals as goal
 
@@ -32,13 +31,13 @@ plus-requires t c = record {
 
 pub returns-clause-outputs : goal.returns-clause-outputs
 returns-clause-outputs t c =
-    same_ok c.plus.result (plus_due c.total_of-2.new.clauses.vars c.in_ok-left.left c.in_ok-right.right).outputs (total_due c.args.clauses.now.vars c.args.parts.now).outputs (both_outputs c.args.parts.now c.args.clauses.now (omega (arith, c.if-parts-eq1.false, c.requires.some)) c.split_at.result.0.now c.split_at.result.1.now c.split_at.ensures.front c.split_at.ensures.back c.total_of.new.clauses c.in_ok-left.ensures.list c.in_ok-left.ensures.vars c.in_ok-left.left c.in_ok-right.right c.in_ok-left.ensures.outputs c.in_ok-right.ensures.outputs c.total_of-2.new.clauses c.in_ok-right.ensures.list c.in_ok-right.ensures.vars) c.plus.ensures.outputs
+    IfOk-weaker c.plus.result _ _ (λ z e. e ∙ both_outputs c.args.parts.now c.args.clauses.now (omega (arith, c.if-parts-eq1.false, c.requires.some)) c.split_at.result.0.now c.split_at.result.1.now c.split_at.ensures.front c.split_at.ensures.back c.total_of.new.clauses c.in_ok-left.ensures.list c.in_ok-left.ensures.vars c.in_ok-left.left c.in_ok-right.right c.in_ok-left.ensures.outputs c.in_ok-right.ensures.outputs c.total_of-2.new.clauses c.in_ok-right.ensures.list c.in_ok-right.ensures.vars) c.plus.ensures.outputs
 
 pub returns-clause-vars : goal.returns-clause-vars
-returns-clause-vars t c = map_ok c.plus.result (λ e. e ∙ both_vars c.args.parts.now c.args.clauses.now (omega (arith, c.if-parts-eq1.false, c.requires.some)) c.split_at.result.0.now c.split_at.result.1.now c.split_at.ensures.front c.split_at.ensures.back c.total_of.new.clauses c.in_ok-left.ensures.list c.in_ok-left.ensures.vars c.in_ok-left.left c.in_ok-right.right c.in_ok-left.ensures.outputs c.in_ok-right.ensures.outputs c.total_of-2.new.clauses c.in_ok-right.ensures.list c.in_ok-right.ensures.vars) c.plus.ensures.vars
+returns-clause-vars t c = on_ok_weaker c.plus.result (λ e. e ∙ both_vars c.args.parts.now c.args.clauses.now (omega (arith, c.if-parts-eq1.false, c.requires.some)) c.split_at.result.0.now c.split_at.result.1.now c.split_at.ensures.front c.split_at.ensures.back c.total_of.new.clauses c.in_ok-left.ensures.list c.in_ok-left.ensures.vars c.in_ok-left.left c.in_ok-right.right c.in_ok-left.ensures.outputs c.in_ok-right.ensures.outputs c.total_of-2.new.clauses c.in_ok-right.ensures.list c.in_ok-right.ensures.vars) c.plus.ensures.vars
 
 pub returns-clause-list : goal.returns-clause-list
-returns-clause-list t c = map_ok c.plus.result (both_list c.args.parts.now c.args.clauses.now (omega (arith, c.if-parts-eq1.false, c.requires.some)) c.split_at.result.0.now c.split_at.result.1.now c.split_at.ensures.front c.split_at.ensures.back c.total_of.new.clauses c.in_ok-left.ensures.list c.in_ok-left.ensures.vars c.in_ok-left.left c.in_ok-right.right c.in_ok-left.ensures.outputs c.in_ok-right.ensures.outputs c.total_of-2.new.clauses c.in_ok-right.ensures.list c.in_ok-right.ensures.vars c.plus.new.clauses) c.plus.ensures.list
+returns-clause-list t c = on_ok_weaker c.plus.result (both_list c.args.parts.now c.args.clauses.now (omega (arith, c.if-parts-eq1.false, c.requires.some)) c.split_at.result.0.now c.split_at.result.1.now c.split_at.ensures.front c.split_at.ensures.back c.total_of.new.clauses c.in_ok-left.ensures.list c.in_ok-left.ensures.vars c.in_ok-left.left c.in_ok-right.right c.in_ok-left.ensures.outputs c.in_ok-right.ensures.outputs c.total_of-2.new.clauses c.in_ok-right.ensures.list c.in_ok-right.ensures.vars c.plus.new.clauses) c.plus.ensures.list
 
 pub returns-clause-err : goal.returns-clause-err
-returns-clause-err t c = map_err c.plus.result (both_grew c.args.parts.now c.args.clauses.now (omega (arith, c.if-parts-eq1.false, c.requires.some)) c.split_at.result.0.now c.split_at.result.1.now c.split_at.ensures.front c.split_at.ensures.back c.total_of.new.clauses c.in_ok-left.ensures.list c.in_ok-left.ensures.vars c.in_ok-left.left c.in_ok-right.right c.in_ok-left.ensures.outputs c.in_ok-right.ensures.outputs c.total_of-2.new.clauses c.in_ok-right.ensures.list c.in_ok-right.ensures.vars c.plus.new.clauses) c.plus.ensures.err
+returns-clause-err t c = on_err_weaker c.plus.result (both_grew c.args.parts.now c.args.clauses.now (omega (arith, c.if-parts-eq1.false, c.requires.some)) c.split_at.result.0.now c.split_at.result.1.now c.split_at.ensures.front c.split_at.ensures.back c.total_of.new.clauses c.in_ok-left.ensures.list c.in_ok-left.ensures.vars c.in_ok-left.left c.in_ok-right.right c.in_ok-left.ensures.outputs c.in_ok-right.ensures.outputs c.total_of-2.new.clauses c.in_ok-right.ensures.list c.in_ok-right.ensures.vars c.plus.new.clauses) c.plus.ensures.err

@@ -1,6 +1,7 @@
 use Rattle.std.proofs.Common.{◌+◌, length, arith}
+use Rattle.clause_store.proofs.Outcomes.{on_err}
 use Rattle.totalizer.specs.Plus.{row_clauses}
-use Rattle.totalizer.proofs.Steps.{on_err, joined_grew}
+use Rattle.totalizer.proofs.Steps.{joined_grew}
 use Rattle.totalizer.proofs.sums.add_rows.Goals as goal
 
 pub returns-in_err-add_row-clause-err : goal.returns-in_err-add_row-clause-err

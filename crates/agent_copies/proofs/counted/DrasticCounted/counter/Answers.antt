@@ -1,34 +1,47 @@
-use Rattle.std.proofs.Common.{ℕ, ◌+◌, List, length, refl, sym, ap, ◌∙◌, subst, arith}
-use Rattle.clause_store.proofs.Grows.{grew_none, grew_front, grew_next}
+use Rattle.std.proofs.Common.{ℕ, ◌+◌, List, length, ap, sym, ◌∙◌, subst, arith}
+use Rattle.std.proofs.lemmas.Result.{on_err_weaker}
+use Rattle.clause_store.specs.Clauses.{Clauses}
+use Rattle.clause_store.specs.Fresh.{fresh_vars}
 use Rattle.clause_store.specs.Grew.{Grew}
+use Rattle.clause_store.proofs.Grows.{grew_none, grew_front, grew_next}
+use Rattle.clause_store.proofs.Outcomes.{on_err}
 use Rattle.totalizer.specs.Joined.{joined_blocks}
-use Rattle.totalizer.specs.Counter.{fresh_vars, AreVarsWithin}
+use Rattle.totalizer.specs.Counter.{AreVarsWithin}
 use Rattle.totalizer.specs.Either.{either_due}
 use Rattle.totalizer.proofs.FreshVars.{fresh_vars_within}
-use Rattle.totalizer.proofs.Steps.{on_err, map_err}
 use Rattle.agent_copies.specs.Differences.{difference_at, drastic_due}
+use Rattle.agent_copies.proofs.Steps.{mid_vars, differences_grew, differences_list}
 use Rattle.agent_copies.proofs.counted.DrasticCounted.counter.Goals as goal
 
 pub returns-in_err-vars-clause-err : goal.returns-in_err-vars-clause-err
 returns-in_err-vars-clause-err c =
-    on_err c.from_residual.result (grew_none c.args.clauses.now c.args.clauses.now (drastic_due c.args.clauses.now.vars c.args.shared.now c.args.own.now).clauses refl (omega arith))
+    let same = c.in_err-vars.ensures.err in
+    on_err c.from_residual.result (grew_none c.args.clauses.now c.fresh_vars.new.self (drastic_due c.args.clauses.now.vars c.args.shared.now c.args.own.now).clauses (ap (λ (s : Clauses). s.list) same) (omega (arith, ap (λ (s : Clauses). s.vars) same)))
 
 pub returns-in_err-add_differences-clause-err : goal.returns-in_err-add_differences-clause-err
 returns-in_err-add_differences-clause-err c =
-    on_err c.from_residual-in_err-add_differences.result (grew_front c.args.clauses.now c.add_differences.new.clauses (joined_blocks (difference_at c.args.clauses.now.vars c.args.shared.now c.args.own.now) (length c.args.shared.now)) (either_due (c.args.clauses.now.vars + length c.args.shared.now) (fresh_vars c.args.clauses.now.vars (length c.args.shared.now))).clauses c.in_err-add_differences.ensures.err)
+    let n = length c.args.shared.now in
+    let v = c.args.clauses.now.vars in
+    on_err c.from_residual-in_err-add_differences.result
+    (grew_front c.args.clauses.now c.add_differences.new.clauses (joined_blocks (difference_at v c.args.shared.now c.args.own.now) n) (either_due (v + n) (fresh_vars v n)).clauses
+    (differences_grew c.args.clauses.now c.fresh_vars.new.self c.vars-base.result c.args.shared.now c.args.own.now c.in_ok-vars.ensures.ok c.vars-base.ensures.vars c.add_differences.new.clauses c.in_err-add_differences.ensures.err))
 
 pub either-requires-clause-vars_in : goal.either-requires-clause-vars_in
 either-requires-clause-vars_in c =
-    let items = c.deref.ensures.value ∙ c.in_ok-vars.ensures ∙ ap (λ v. fresh_vars v (length c.args.shared.now)) c.vars.ensures.vars in
-    subst (λ xs. AreVarsWithin c.add_differences.new.clauses.vars xs) (sym items) (fresh_vars_within c.args.clauses.now.vars (length c.args.shared.now) c.add_differences.new.clauses.vars (omega (arith, c.in_ok-add_differences.ensures.vars)))
+    let items = c.deref.ensures.value ∙ c.in_ok-vars.ensures.vars in
+    let vars = mid_vars c.args.clauses.now c.fresh_vars.new.self c.vars-base.result c.args.shared.now c.args.own.now c.in_ok-vars.ensures.ok c.vars-base.ensures.vars in
+    subst (λ xs. AreVarsWithin c.add_differences.new.clauses.vars xs) (sym items) (fresh_vars_within c.args.clauses.now.vars (length c.args.shared.now) c.add_differences.new.clauses.vars (omega (arith, c.add_differences.ensures.vars, vars)))
 
 pub returns-clause-err : goal.returns-clause-err
 returns-clause-err c =
-    let items = c.deref.ensures.value ∙ c.in_ok-vars.ensures ∙ ap (λ v. fresh_vars v (length c.args.shared.now)) c.vars.ensures.vars in
-    let first = joined_blocks (difference_at c.args.clauses.now.vars c.args.shared.now c.args.own.now) (length c.args.shared.now) in
-    let rest = (either_due (c.args.clauses.now.vars + length c.args.shared.now) (fresh_vars c.args.clauses.now.vars (length c.args.shared.now))).clauses in
-    map_err c.either.result
-    (λ refused. grew_next c.args.clauses.now c.add_differences.new.clauses c.either.new.clauses first rest c.in_ok-add_differences.ensures.list (omega (arith, c.in_ok-add_differences.ensures.vars))
-    (subst (λ (xs : List ℕ). Grew c.add_differences.new.clauses c.either.new.clauses (either_due (c.args.clauses.now.vars + length c.args.shared.now) xs).clauses) items
-    (subst (λ (n : ℕ). Grew c.add_differences.new.clauses c.either.new.clauses (either_due n c.deref.result.now).clauses) c.in_ok-add_differences.ensures.vars refused)))
+    let n = length c.args.shared.now in
+    let v = c.args.clauses.now.vars in
+    let items = c.deref.ensures.value ∙ c.in_ok-vars.ensures.vars in
+    let vars = c.add_differences.ensures.vars ∙ mid_vars c.args.clauses.now c.fresh_vars.new.self c.vars-base.result c.args.shared.now c.args.own.now c.in_ok-vars.ensures.ok c.vars-base.ensures.vars in
+    let first = joined_blocks (difference_at v c.args.shared.now c.args.own.now) n in
+    let list = differences_list c.args.clauses.now c.fresh_vars.new.self c.vars-base.result c.args.shared.now c.args.own.now c.in_ok-vars.ensures.ok c.vars-base.ensures.vars c.add_differences.new.clauses.list c.in_ok-add_differences.ensures.list in
+    on_err_weaker c.either.result
+    (λ refused. grew_next c.args.clauses.now c.add_differences.new.clauses c.either.new.clauses first (either_due (v + n) (fresh_vars v n)).clauses list (omega (arith, vars))
+    (subst (λ (xs : List ℕ). Grew c.add_differences.new.clauses c.either.new.clauses (either_due (v + n) xs).clauses) items
+    (subst (λ (m : ℕ). Grew c.add_differences.new.clauses c.either.new.clauses (either_due m c.deref.result.now).clauses) vars refused)))
     c.either.ensures.err

@@ -1,7 +1,7 @@
 use Rattle.std.proofs.Common.{◌≡◌, length, List, ℕ, refl, sym, ap, ◌∙◌, subst, arith, All}
 use Rattle.clause_store.proofs.Grows.{grew_none}
+use Rattle.clause_store.proofs.Outcomes.{on_err}
 use Rattle.totalizer.specs.Counter.{AllVarsWithin}
-use Rattle.totalizer.proofs.Steps.{on_err}
 use Rattle.aggregators.specs.Levels.{top_of, leximax_due}
 use Rattle.aggregators.specs.Repeats.{some_repeated, length_repeated, sized_repeated, within_repeated}
 use Rattle.aggregators.proofs.Steps.{top_first}

@@ -1,8 +1,9 @@
 use Rattle.std.proofs.Common.{◌+◌, ◌≤◌, ◌^◌, length, refl, sym, ap, ◌∙◌, subst, arith}
 use Rattle.clause_store.proofs.Grows.{grew_none}
+use Rattle.clause_store.proofs.Outcomes.{on_err}
+use Rattle.clause_store.specs.Limits.{var_limit}
 use Rattle.totalizer.specs.Counter.{AllVarsWithin}
 use Rattle.totalizer.specs.Total.{total_due}
-use Rattle.totalizer.proofs.Steps.{on_err}
 use Rattle.merge_model.specs.Merging.{repeated}
 use Rattle.aggregators.specs.Levels.{sum_due}
 use Rattle.aggregators.specs.Repeats.{some_repeated, within_repeated}
@@ -27,4 +28,4 @@ pub total-requires-clause-room : goal.total-requires-clause-room
 total-requires-clause-room c =
     let items = c.deref.ensures.value ∙ c.in_ok-parts.ensures in
     let room : (total_due c.args.clauses.now.vars (repeated c.args.times.now c.args.aways.now)).vars ≤ c.args.clauses.now.vars + 2 ^ 24 = sum_room c.args.clauses.now.vars c.args.aways.now c.args.times.now c.requires.counters in
-    subst (λ ps. (total_due c.args.clauses.now.vars ps).vars ≤ 2 ^ 31) (sym items) (omega (arith, room, c.requires.room))
+    subst (λ ps. (total_due c.args.clauses.now.vars ps).vars ≤ var_limit) (sym items) (omega (arith, room, c.requires.room))

@@ -6,8 +6,8 @@ use Rattle.std.specs.Prelude.{◌^◌, Contains}
 use Rattle.std.proofs.lemmas.Bool.{cases_Bool}
 use Rattle.clause_store.specs.declared.lit.Lit.{Lit}
 use Rattle.derivation_log.specs.Logs.{learned_of, is_learned, clauses_of, IsSound}
-use Rattle.derivation_log.proofs.Steps.{clauses_push}
-use Rattle.clause_store.specs.Truth.{Satisfies}
+use Rattle.derivation_log.proofs.Steps.{clauses_append}
+use Rattle.clause_store.specs.Truth.{AreTrue}
 use Rattle.log_checker.proofs.Sound.{log_refutes}
 use Rattle.derivation_log.specs.declared.step.Step.{Step}
 use Rattle.solver_laws.specs.Ready.{IsLog}
@@ -77,9 +77,9 @@ just old new asked budget (Refuted n) l a = λ v s t. (
     let claimed = a.4 in
     let mid : Log = a.2 in
     let main : new.main ≡ old.main = ap (λ (x : Log). x.main) claimed.3 ∙ grown.main in
-    let last : clauses_of new.steps ≡ clauses_of mid.steps ++ claimed.0.clause ∷ [] = ap (λ (x : Log). clauses_of x.steps) claimed.3 ∙ clauses_push mid.steps claimed.0 in
+    let last : clauses_of new.steps ≡ clauses_of mid.steps ++ claimed.0.clause ∷ [] = ap (λ (x : Log). clauses_of x.steps) claimed.3 ∙ clauses_append mid.steps (claimed.0 ∷ []) in
     let within : Contains (clauses_of new.steps) claimed.0.clause = subst (λ (cs : List (List Lit)). Contains cs claimed.0.clause) (sym last) (contains_last (clauses_of mid.steps) claimed.0.clause) in
-    log_refutes v new.main new.steps claimed.0.clause asked (subst (Satisfies v) (sym main) s) l within claimed.2 t)
+    log_refutes v new.main new.steps claimed.0.clause asked (subst (λ (cs : List (List Lit)). AreTrue cs v) (sym main) s) l within claimed.2 t)
 
 pub returns-clause-refuted : goal.returns-clause-refuted
 returns-clause-refuted g c = just c.args.self.now.log c.search.new.log c.args.assumptions.now c.args.budget c.in_ok-reply.reply c.search.ensures.log.sound (returns-clause-answered g c)

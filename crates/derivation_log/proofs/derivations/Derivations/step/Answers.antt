@@ -4,6 +4,7 @@ use Rattle.derivation_log.specs.declared.step.Link.{Link}
 use Rattle.derivation_log.specs.declared.step.Step.{Step}
 use Rattle.derivation_log.specs.declared.step.StepKind.{StepKind}
 use Rattle.clause_store.specs.Lits.{AreInRange}
+use Rattle.clause_store.specs.Limits.{clause_limit}
 use Rattle.derivation_log.specs.Logs.{Log, known_of}
 use Rattle.derivation_log.proofs.Lines.{step_has_line}
 use Rattle.derivation_log.proofs.Steps.{stands, step_of_number, view_known}
@@ -34,7 +35,7 @@ returns-clause-line c = λ follow.
     let g : Log = c.args.self.now in
     let own : List (List Lit) = c.self.inside.known.list in
     let known : known_of g ≡ own = sym (ap known_of c.self.view_is) ∙ view_known own c.self.inside.main c.self.inside.rows.items c.self.invariant in
-    let few : length (known_of g) < 2 ^ 63 = omega (arith, ap length known, c.len.ensures.len, c.len.ensures.small) in
+    let few : length (known_of g) < clause_limit = omega (arith, ap length known, c.len.ensures.len, c.len.ensures.small) in
     let vars : c.self.inside.known.vars ≡ g.vars = ap (λ (x : Log). x.vars) c.self.view_is in
     let in_range : AreInRange g.vars (known_of g) = subst (λ (n : ℕ). AreInRange n (known_of g)) vars (subst (AreInRange c.self.inside.known.vars) (sym known) c.len.ensures.whole.in_range) in
     let s : Step = record { kind = c.index-row.result.now.kind; clause = c.in_ok-clause.clause; first = c.index-row.result.now.first; chain = c.from_vec.result } in

@@ -1,0 +1,10 @@
+-- The limits of a list of clauses.
+use Rattle.std.specs.Prelude.{ℕ, ◌^◌}
+
+-- how many variables it may have
+abbrev pub var_limit : ℕ
+var_limit = 2 ^ 31
+
+-- the numbers of its clauses are below it, so that 19 digits write them
+abbrev pub clause_limit : ℕ
+clause_limit = 2 ^ 63

@@ -1,0 +1,4 @@
+pub mod Distances
+pub mod Laws
+pub mod Members
+pub mod Postulates
