@@ -1,4 +1,4 @@
-ghost use Rattle.std.specs.Prelude.{IfOk};
+ghost use Rattle.std.specs.Prelude.{◌≡◌, IfOk};
 ghost use Rattle.merge_cli.specs.Answers.{ProblemAnswers, TextAnswers};
 ghost use Rattle.merge_cli.specs.Commands.{Reads, ReadsProblem};
 ghost use Rattle.merge_cli.specs.Refusals.{SaysFault, SaysStop};
@@ -10,7 +10,7 @@ use crate::refusal::refusal;
 use crate::reply::Reply;
 use crate::status::REFUSED;
 use edge::NoMemory;
-use merge_model::Problem;
+use merge_model::{AggregatorName, DistanceName, Problem};
 use problem_reading::{TextFault, TextStop, read_problem};
 use std::alloc::Global;
 
@@ -40,8 +40,16 @@ fn problem_reply(alloc: Global, command: Command, problem: &Problem) -> Result<R
     requires { ReadsProblem command }
     ensures { IfOk result (λ reply. ProblemAnswers command problem.now reply.status reply.text.items) }
 {
+    let (distance, aggregator) = operators_of(command);
+    merge_reply(alloc, distance, aggregator, problem)
+}
+
+// The distance and the aggregator by which a command merges.
+fn operators_of(command: Command) -> (DistanceName, AggregatorName)
+    ensures { command ≡ Command.Merge result.0 result.1 }
+{
     match command {
-        Command::Merge(distance, aggregator) => merge_reply(alloc, distance, aggregator, problem),
+        Command::Merge(distance, aggregator) => (distance, aggregator),
     }
 }
 

@@ -33,6 +33,11 @@ pub stopped : {T E : Type 0} (result : Result T E) (old new text : List ℕ) →
 stopped (Ok x) old new text refused g = absurd (cc)
 stopped (Err e) old new text refused g = g
 
+-- the first piece is written, and the rest by a writer whose result is handed on
+pub rest_written : {T E : Type 0} (result : Result T E) (old mid new first rest : List ℕ) → mid ≡ old ++ first → Writes result mid new rest → Writes result old new (first ++ rest)
+rest_written (Ok x) old mid new first rest is w = w ∙ ap (λ t. t ++ rest) is ∙ append_assoc old first rest
+rest_written (Err e) old mid new first rest is w = part_of_rest old mid new first rest is w
+
 -- pieces that are written one after the other: the next one, of which a part is written
 pub part_of_next : {X : Type 0} (piece : X → List ℕ) (xs : List X) (k : ℕ) (x d : X) (old mid new : List ℕ) → k < length xs → x ≡ get_or xs k d
     → mid ≡ old ++ flat_map piece (take k xs) → GrowsWithin mid new (piece x) → GrowsWithin old new (flat_map piece xs)

@@ -1,0 +1,51 @@
+use Rattle.std.proofs.Common.{inl, inr}
+use Rattle.merge_cli.proofs.Laws.{no_stop}
+use Rattle.merge_cli.proofs.Told.{refused_words_run, too_long_run, at_end_run, told_run, refused_run, refused_only_run, problem_run, lacking_run, not_merged_run, merged_run, inconsistent_run}
+use Rattle.merge_cli.proofs.top.run.Goals as goal
+
+pub returns-in-Ok-send_all-clause-read_fault : goal.returns-in-Ok-send_all-clause-read_fault
+returns-in-Ok-send_all-clause-read_fault g c = λ e. absurd ((no_stop _ _ _ _ _ c.in-Ok.ensures.ok.answers).0 e)
+
+pub returns-in-Ok-send_all-clause-write_fault : goal.returns-in-Ok-send_all-clause-write_fault
+returns-in-Ok-send_all-clause-write_fault g c = λ e. absurd ((no_stop _ _ _ _ _ c.in-Ok.ensures.ok.answers).1 e)
+
+pub returns-in-Ok-send_all-clause-stopped : goal.returns-in-Ok-send_all-clause-stopped
+returns-in-Ok-send_all-clause-stopped g c =
+    let apart = no_stop _ _ _ _ _ c.in-Ok.ensures.ok.answers in
+    λ e. elim e [ inl four ↦ absurd (apart.0 four) | inr six ↦ absurd (apart.2 six) ]
+
+pub returns-in-Ok-send_all-clause-refused_words : goal.returns-in-Ok-send_all-clause-refused_words
+returns-in-Ok-send_all-clause-refused_words g c = λ five six. refused_words_run _ _ _ _ _ _ _ c.in-Ok.ensures.ok
+
+pub returns-in-Ok-send_all-clause-too_long : goal.returns-in-Ok-send_all-clause-too_long
+returns-in-Ok-send_all-clause-too_long g c = λ four five six. too_long_run _ _ _ _ _ _ _ c.in-Ok.ensures.ok
+
+pub returns-in-Ok-send_all-clause-told : goal.returns-in-Ok-send_all-clause-told
+returns-in-Ok-send_all-clause-told g c = λ command bytes asks four five six. told_run _ _ _ _ _ _ _ c.in-Ok.ensures.ok command bytes asks
+
+pub returns-in-Ok-send_all-clause-refused : goal.returns-in-Ok-send_all-clause-refused
+returns-in-Ok-send_all-clause-refused g c = λ command bytes asks fault first few four five six. refused_run _ _ _ _ _ _ _ c.in-Ok.ensures.ok command bytes asks fault first few
+
+pub returns-in-Ok-send_all-clause-refused_only : goal.returns-in-Ok-send_all-clause-refused_only
+returns-in-Ok-send_all-clause-refused_only g c = refused_only_run _ _ _ _ _ _ _ c.in-Ok.ensures.ok
+
+pub returns-in-Ok-send_all-clause-answered_problem : goal.returns-in-Ok-send_all-clause-answered_problem
+returns-in-Ok-send_all-clause-answered_problem g c = λ command bytes asks problem spelled few four five six. problem_run _ _ _ _ _ _ _ c.in-Ok.ensures.ok command bytes asks problem spelled few
+
+pub returns-in-Ok-send_all-clause-lacking : goal.returns-in-Ok-send_all-clause-lacking
+returns-in-Ok-send_all-clause-lacking g c = lacking_run _ _ _ _ _ _ _ c.in-Ok.ensures.ok
+
+pub returns-in-Ok-send_all-clause-lacking_not_merged : goal.returns-in-Ok-send_all-clause-lacking_not_merged
+returns-in-Ok-send_all-clause-lacking_not_merged g c = not_merged_run _ _ _ _ _ _ _ c.in-Ok.ensures.ok
+
+pub returns-in-Ok-send_all-clause-merged : goal.returns-in-Ok-send_all-clause-merged
+returns-in-Ok-send_all-clause-merged g c = merged_run _ _ _ _ _ _ _ c.in-Ok.ensures.ok
+
+pub returns-in-Ok-send_all-clause-inconsistent : goal.returns-in-Ok-send_all-clause-inconsistent
+returns-in-Ok-send_all-clause-inconsistent g c = inconsistent_run _ _ _ _ _ _ _ c.in-Ok.ensures.ok
+
+pub returns-in-Ok-send_all-clause-at_end : goal.returns-in-Ok-send_all-clause-at_end
+returns-in-Ok-send_all-clause-at_end g c = λ command is reads few four six. at_end_run _ _ _ _ _ _ _ c.in-Ok.ensures.ok command is reads few
+
+pub returns-in-Err-clause-at_end : goal.returns-in-Err-clause-at_end
+returns-in-Err-clause-at_end g c = λ command is reads few four six. at_end_run _ _ _ _ _ _ _ c.in-Ok.ensures.ok command is reads few
