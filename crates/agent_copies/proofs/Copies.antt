@@ -10,17 +10,17 @@ use Rattle.clause_store.specs.Fresh.{fresh_vars, fresh_lits}
 use Rattle.clause_store.proofs.Fresh.{length-fresh_lits, fresh_lits_in}
 use Rattle.formulas.specs.declared.formula.Formula.{Formula}
 use Rattle.formulas.specs.Formulas.{width_of}
+use Rattle.formulas.specs.Limits.{valuation_limit}
 use Rattle.clause_translation.specs.Definition.{definition}
 use Rattle.clause_translation.proofs.Parts.{root_is, some_node}
 use Rattle.clause_translation.proofs.Defines.{defines}
 use Rattle.totalizer.specs.Counter.{Due, AreFresh}
 use Rattle.agent_copies.specs.Counter.{IsCounter}
 use Rattle.agent_copies.specs.Copy.{copy_due, IsCopy}
-use Rattle.agent_copies.specs.Limits.{shared_limit}
 
 -- what the law of a distance says
 abbrev pub Counts : (List Bool → List Bool → ℕ) → (ℕ → ℕ) → (ℕ → List Lit → List Lit → Due) → Type 0
-Counts dist most due = (v : ℕ) (shared own : List Lit) → length shared ≡ length own → 1 ≤ length shared → length shared ≤ shared_limit → InRange v shared → InRange v own → IsCounter v shared own dist (most (length shared)) (due v shared own)
+Counts dist most due = (v : ℕ) (shared own : List Lit) → length shared ≡ length own → 1 ≤ length shared → length shared ≤ valuation_limit → InRange v shared → InRange v own → IsCounter v shared own dist (most (length shared)) (due v shared own)
 
 cons_above : (u v w x : ℕ) (ys : List ℕ) → u < x → x ≤ v → AreFresh v w ys → (k : ℕ) → k < length (x ∷ ys) → u < slice_index (x ∷ ys) k
 cons_above u v w x ys lo hi f zero lt = lo
@@ -52,7 +52,7 @@ fresh_row v (suc n) w ys le f =
     (fresh_row (v + 1) n w ys (omega arith) (subst (λ m. AreFresh m w ys) e f))
 
 -- what is due for a copy is a copy
-pub copy_is : (dist : List Bool → List Bool → ℕ) (most : ℕ → ℕ) (due : ℕ → List Lit → List Lit → Due) → Counts dist most due → (v : ℕ) (shared : List Lit) (base : Formula) → 1 ≤ length shared → length shared ≤ shared_limit → InRange v shared → width_of base ≤ length shared → IsCopy v shared base dist (most (length shared)) (copy_due due v shared base)
+pub copy_is : (dist : List Bool → List Bool → ℕ) (most : ℕ → ℕ) (due : ℕ → List Lit → List Lit → Due) → Counts dist most due → (v : ℕ) (shared : List Lit) (base : Formula) → 1 ≤ length shared → length shared ≤ valuation_limit → InRange v shared → width_of base ≤ length shared → IsCopy v shared base dist (most (length shared)) (copy_due due v shared base)
 copy_is dist most due law v shared base lo hi in_range wide =
     let n = length shared in
     let own = fresh_lits v n in

@@ -1,5 +1,5 @@
 -- Steps of the loop over places, and what the counters' calls need.
-use Rattle.std.proofs.Common.{◌≡◌, ℕ, ◌+◌, ◌<◌, ◌≤◌, List, ◌++◌, length, ap, ◌∙◌, subst, arith}
+use Rattle.std.proofs.Common.{◌≡◌, ℕ, ◌+◌, ◌<◌, List, ◌++◌, length, ap, ◌∙◌, subst, arith}
 use Rattle.std.specs.Prelude.{map, slice_index_or}
 use Rattle.std.proofs.lemmas.List.{get_or_default}
 use Rattle.clause_store.specs.declared.lit.Lit.{Lit}

@@ -1,6 +1,7 @@
 -- What is due for a distance counts it.
 use Rattle.std.proofs.Common.{◌≡◌, ℕ, zero, suc, ◌+◌, ◌*◌, ◌<◌, ◌≤◌, Bool, true, false, not, ◌&&◌, ◌||◌, List, [], ◌∷◌, length, refl, sym, ap, ◌∙◌, subst, arith}
 use Rattle.std.specs.Prelude.{if◌then◌else◌, slice_index}
+use Rattle.formulas.specs.Limits.{valuation_limit}
 use Rattle.clause_store.specs.declared.lit.Lit.{Lit}
 use Rattle.clause_store.specs.Lits.{positive_lit, negated, IsWithin, InRange}
 use Rattle.clause_store.specs.Truth.{AreTrue, lit_true}
@@ -24,7 +25,7 @@ use Rattle.totalizer.proofs.Sizes.{leaves_unary, leaves_within, length-leaves, s
 use Rattle.totalizer.proofs.Disjunctions.{either_is}
 use Rattle.agent_copies.specs.Counter.{truth_of, IsCounter}
 use Rattle.agent_copies.specs.Differences.{difference_clauses, difference_at, hamming_due, drastic_due}
-use Rattle.agent_copies.specs.Limits.{shared_limit, counter_room}
+use Rattle.agent_copies.specs.Limits.{counter_room}
 
 -- whether two truth values differ
 abbrev pub differ : Bool → Bool → Bool
@@ -136,14 +137,14 @@ some_differs b v (x ∷ xs) (y ∷ ys) e h =
 mul_le : (n k : ℕ) → n ≤ k → n * n ≤ k * k
 mul_le n k h = grind arith
 
-big : (v n m s w : ℕ) → n ≤ shared_limit → m ≡ n → s ≡ n → w ≤ (v + n) + m * s → w ≤ v + counter_room
-big v n m s w h e f g = let x : n * n ≤ shared_limit * shared_limit = mul_le n shared_limit h in let y : m * s ≡ n * n = cc in omega arith
+big : (v n m s w : ℕ) → n ≤ valuation_limit → m ≡ n → s ≡ n → w ≤ (v + n) + m * s → w ≤ v + counter_room
+big v n m s w h e f g = let x : n * n ≤ valuation_limit * valuation_limit = mul_le n valuation_limit h in let y : m * s ≡ n * n = cc in omega arith
 
 -- the total of the difference variables is small
 abbrev pub hamming_total : ℕ → ℕ → Due
 hamming_total v n = total_due (v + n) (leaves (fresh_vars v n))
 
-hamming_few : (v n : ℕ) → 1 ≤ n → n ≤ shared_limit → (hamming_total v n).vars ≤ v + counter_room
+hamming_few : (v n : ℕ) → 1 ≤ n → n ≤ valuation_limit → (hamming_total v n).vars ≤ v + counter_room
 hamming_few v n lo hi =
     let ls = leaves (fresh_vars v n) in
     let a = length-leaves (fresh_vars v n) ∙ length-fresh_vars v n in
@@ -163,7 +164,7 @@ between v n k lt =
     (omega arith, omega arith)
 
 -- what is due for the Hamming distance counts it
-pub hamming_is : (v : ℕ) (xs ys : List Lit) → length xs ≡ length ys → 1 ≤ length xs → length xs ≤ shared_limit → InRange v xs → InRange v ys → IsCounter v xs ys hamming (length xs) (hamming_due v xs ys)
+pub hamming_is : (v : ℕ) (xs ys : List Lit) → length xs ≡ length ys → 1 ≤ length xs → length xs ≤ valuation_limit → InRange v xs → InRange v ys → IsCounter v xs ys hamming (length xs) (hamming_due v xs ys)
 hamming_is v xs ys e lo hi hx hy =
     let n = length xs in
     let vars = fresh_vars v n in
@@ -181,7 +182,7 @@ hamming_is v xs ys e lo hi hx hy =
     }
 
 -- what is due for the drastic distance counts it
-pub drastic_is : (v : ℕ) (xs ys : List Lit) → length xs ≡ length ys → 1 ≤ length xs → length xs ≤ shared_limit → InRange v xs → InRange v ys → IsCounter v xs ys drastic 1 (drastic_due v xs ys)
+pub drastic_is : (v : ℕ) (xs ys : List Lit) → length xs ≡ length ys → 1 ≤ length xs → length xs ≤ valuation_limit → InRange v xs → InRange v ys → IsCounter v xs ys drastic 1 (drastic_due v xs ys)
 drastic_is v xs ys e lo hi hx hy =
     let n = length xs in
     let vars = fresh_vars v n in
@@ -198,5 +199,5 @@ drastic_is v xs ys e lo hi hx hy =
     }
 
 -- there is room for the total of the difference variables
-pub hamming_room : (v n : ℕ) → 1 ≤ n → n ≤ shared_limit → v + counter_room ≤ var_limit → (hamming_total v n).vars ≤ var_limit
+pub hamming_room : (v n : ℕ) → 1 ≤ n → n ≤ valuation_limit → v + counter_room ≤ var_limit → (hamming_total v n).vars ≤ var_limit
 hamming_room v n lo hi room = let h = hamming_few v n lo hi in omega arith

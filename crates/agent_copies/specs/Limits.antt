@@ -1,9 +1,5 @@
--- The limits of counters of distances.
+-- The limit of counters of distances.
 use Rattle.std.specs.Prelude.{ℕ, ◌^◌}
-
--- how many shared literals there may be
-abbrev pub shared_limit : ℕ
-shared_limit = 64
 
 -- how many fresh variables the counter of one distance may take
 abbrev pub counter_room : ℕ

@@ -1,5 +1,5 @@
-//! Counters of distances, and the copy of an agent: own literals, its base over them, and the counter of the
-//! distance from the shared literals.
+//! Counters of distances, and the copy of an agent: own literals, its base over them, and the
+//! counter of the distance from the shared literals.
 #![tactic(auto)]
 
 mod copy;

@@ -7,7 +7,7 @@ use merge_model::{Drastic, Hamming};
 use std::process::Abort;
 use std::test::Fail;
 
-// The base over the own literal, and the difference of the two literals.
+/// The base over the own literal, and the difference of the two literals.
 fn assert_copied(rt: &impl Abort, clauses: &ClauseList, copy: &AgentCopy) {
     assert_eq!(rt; copy.own.as_slice(), [Lit::positive(2)].as_slice());
     assert_eq!(rt; copy.root, Lit::positive(3));

@@ -1,4 +1,5 @@
-ghost use Rattle.std.specs.Prelude.{◌≡◌, ◌<◌, ◌++◌, length, replicate, slice_index, All, IfOk, OnOk};
+ghost use Rattle.std.specs.Prelude.{◌≡◌, ◌<◌, ◌++◌, length, replicate, slice_index, All, IfOk};
+ghost use Rattle.std.specs.Prelude.{OnOk};
 ghost use Rattle.merge_model.specs.Merging.{repeated};
 ghost use Rattle.aggregators.specs.Levels.{column};
 

@@ -1,4 +1,5 @@
-ghost use Rattle.std.specs.Prelude.{◌≡◌, ℕ, ◌+◌, ◌≤◌, List, ◌++◌, length, map, All, IfOk, OnOk, OnErr};
+ghost use Rattle.std.specs.Prelude.{◌≡◌, ℕ, ◌+◌, ◌≤◌, List, ◌++◌, length, map, All, IfOk, OnOk};
+ghost use Rattle.std.specs.Prelude.{OnErr};
 ghost use Rattle.std.specs.Cmp.Lexicographic.{slice_cmp};
 ghost use Rattle.std.specs.Ordering.{nat_cmp};
 ghost use Rattle.ranks.specs.Limits.{entry_limit, distance_limit};
@@ -21,10 +22,11 @@ use totalizer::Unary;
 /// due for the levels, after so many variables, of counters of distances that each count so often.
 ///
 /// The laws, below the methods. `in_order`: for lists of one length, the lexicographic order of the
-/// level values is that of the ranks. `are_levels`: where the given counters count, the clauses that
-/// are due hold in exactly one extension, and there the levels count the level values. Level values
-/// are as many as levels, each at most its level's length. Each output of a level is a fresh variable
-/// or an output of a given counter, and all of them are distinct where those of the counters are.
+/// level values is that of the ranks. `are_levels`: where the given counters count, the clauses
+/// that are due hold in exactly one extension, and there the levels count the level values. Level
+/// values are as many as levels, each at most its level's length. Each output of a level is a fresh
+/// variable or an output of a given counter, and all of them are distinct where those of the
+/// counters are.
 pub trait Levelled: Aggregator {
     ghost levels_of: { Self → List ℕ → ℕ → List ℕ };
 
@@ -39,9 +41,9 @@ pub trait Levelled: Aggregator {
         requires small { top ≤ distance_limit }
         ensures { IfOk result (λ values. values.items ≡ levels_of self.now full.now top) };
 
-    /// The levels of counters of distances that each count so often: 1 to 64 in all, of one length of at most
-    /// 4,096. Appends clauses over at most 2^24 fresh variables. After `NoMemory` the list has grown by some
-    /// variables and some of these clauses, from the first on.
+    /// The levels of counters of distances that each count so often: 1 to 64 in all, of one length
+    /// of at most 4,096. Appends clauses over at most 2^24 fresh variables. After `NoMemory` the
+    /// list has grown by some variables and some of these clauses, from the first on.
     fn levels(
         &self,
         alloc: Global,
@@ -51,13 +53,20 @@ pub trait Levelled: Aggregator {
     ) -> Result<Vec<Unary>, NoMemory>
         requires counters { HaveLevels clauses.old.vars aways.now times.now }
         requires room { clauses.old.vars + levels_room ≤ var_limit }
-        ensures levels { IfOk result (λ levels. levels.items ≡ (levels_due self.now clauses.old.vars aways.now times.now).levels) }
-        ensures vars { OnOk result (clauses.new.vars ≡ (levels_due self.now clauses.old.vars aways.now times.now).vars) }
-        ensures list { OnOk result (clauses.new.list ≡ clauses.old.list ++ map sorted_clause (levels_due self.now clauses.old.vars aways.now times.now).clauses) }
-        ensures err { OnErr result (Grew clauses.old clauses.new (levels_due self.now clauses.old.vars aways.now times.now).clauses) };
+        ensures levels { IfOk result (λ levels. levels.items ≡
+            (levels_due self.now clauses.old.vars aways.now times.now).levels) }
+        ensures vars { OnOk result
+            (clauses.new.vars ≡ (levels_due self.now clauses.old.vars aways.now times.now).vars) }
+        ensures list { OnOk result (clauses.new.list ≡ clauses.old.list ++ map sorted_clause
+            (levels_due self.now clauses.old.vars aways.now times.now).clauses) }
+        ensures err { OnErr result (Grew clauses.old clauses.new
+            (levels_due self.now clauses.old.vars aways.now times.now).clauses) };
 
-    ghost in_order: { (a : Self) (top : ℕ) (u w : List ℕ) → All (λ k. k ≤ top) u → All (λ k. k ≤ top) w → length u ≡ length w →
-        slice_cmp nat_cmp (levels_of a u top) (levels_of a w top) ≡ slice_cmp nat_cmp (Self.rank a u) (Self.rank a w) };
+    ghost in_order: { (a : Self) (top : ℕ) (u w : List ℕ) → All (λ k. k ≤ top) u →
+        All (λ k. k ≤ top) w → length u ≡ length w → slice_cmp nat_cmp (levels_of a u top)
+        (levels_of a w top) ≡ slice_cmp nat_cmp (Self.rank a u) (Self.rank a w) };
 
-    ghost are_levels: { (a : Self) (v : ℕ) (aways : List (List ℕ)) (times : List ℕ) → HaveLevels v aways times → AreLevels v aways times (levels_of a) (levels_due a v aways times) };
+    ghost are_levels: { (a : Self) (v : ℕ) (aways : List (List ℕ)) (times : List ℕ) →
+        HaveLevels v aways times → AreLevels v aways times (levels_of a)
+        (levels_due a v aways times) };
 }

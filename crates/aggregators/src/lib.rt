@@ -3,9 +3,9 @@
 
 mod counters;
 mod levelled;
-mod maximum;
-mod sorted;
-mod summed;
+mod leximax;
+mod max;
+mod sum;
 
 pub use levelled::Levelled;
 

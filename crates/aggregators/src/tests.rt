@@ -28,7 +28,7 @@ fn level_values_of_two_zero_one(rt: HostRuntime) -> Result<(), Fail> {
     Ok(())
 }
 
-// Four variables, and no clause.
+/// Four variables, and no clause.
 fn four_variables(alloc: Global) -> ClauseList
     ensures { result.vars ≡ 4 }
 {
@@ -40,7 +40,7 @@ fn four_variables(alloc: Global) -> ClauseList
     clauses
 }
 
-// The counter of two variables.
+/// The counter of two variables.
 fn counter_of(alloc: Global, low: u32, high: u32) -> Result<Unary, NoMemory>
     requires low { 1 ≤ low }
     requires high { 1 ≤ high }
@@ -52,7 +52,7 @@ fn counter_of(alloc: Global, low: u32, high: u32) -> Result<Unary, NoMemory>
     Ok(Unary::from_outputs(outputs))
 }
 
-// The levels of two counters: that of variables 1 and 2, which counts twice, and that of 3 and 4.
+/// The levels of two counters: that of variables 1 and 2, which counts twice, and that of 3 and 4.
 fn levels_of<L: Levelled>(
     alloc: Global,
     aggregator: &L,
@@ -64,7 +64,8 @@ fn levels_of<L: Levelled>(
     aggregator.levels(alloc, clauses, &aways, &[2, 1])
 }
 
-// Once the total of the first counter and the second, with outputs 5 to 8, and then that of the first and those.
+// Once the total of the first counter and the second, with outputs 5 to 8, and then that of the
+// first and those.
 #[test]
 fn the_level_of_the_sum_has_six_outputs(rt: HostRuntime) -> Result<(), Fail> {
     let mut clauses = four_variables(rt.alloc());

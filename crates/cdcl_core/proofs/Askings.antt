@@ -8,7 +8,7 @@ use Rattle.clause_store.specs.declared.lit.Lit.{Lit}
 use Rattle.watch_lists.specs.declared.entry.Entry.{Entry}
 use Rattle.watch_lists.specs.Trace.{Trace, Attached, Grows, Same, More, value_of, entry_of, under, upto, AreApart, IsStacked, IsTrace}
 use Rattle.watch_lists.proofs.Traces.{free_entry}
-use Rattle.cdcl_core.specs.Choices.{AreTrue}
+use Rattle.cdcl_core.specs.Choices.{AreTrueBefore}
 use Rattle.solver_laws.specs.Ready.{DecidesOnly}
 use Rattle.solver_laws.proofs.Rooms.{upto_whole, upto_upto, contains_has}
 use Rattle.watch_lists.proofs.Scans.{contains_all}
@@ -48,13 +48,13 @@ value_own es e = let t : eqb e.lit.var e.lit.var ≡ true = grind arith in rw t 
     own false = refl
 
 -- what is true of the first assumptions
-pub true_kept : (n : ℕ) (asked : List Lit) (es fs : List Entry) → ((l : Lit) → value_of es l ≡ Some true → value_of fs l ≡ Some true) → AreTrue n asked es → AreTrue n asked fs
+pub true_kept : (n : ℕ) (asked : List Lit) (es fs : List Entry) → ((l : Lit) → value_of es l ≡ Some true → value_of fs l ≡ Some true) → AreTrueBefore n asked es → AreTrueBefore n asked fs
 true_kept n asked es fs f a k d lt le = f (get_or asked k d) (a k d lt le)
 
-pub true_opened : (n : ℕ) (asked : List Lit) (es : List Entry) (e : Entry) → value_of es e.lit ≡ None → AreTrue n asked es → AreTrue n asked (e ∷ es)
+pub true_opened : (n : ℕ) (asked : List Lit) (es : List Entry) (e : Entry) → value_of es e.lit ≡ None → AreTrueBefore n asked es → AreTrueBefore n asked (e ∷ es)
 true_opened n asked es e f a = true_kept n asked es (e ∷ es) (λ x h. value_more es e x true f h) a
 
-pub true_more : (n : ℕ) (asked : List Lit) (es : List Entry) (l : Lit) → n < length asked → get_or asked n l ≡ l → value_of es l ≡ Some true → AreTrue n asked es → AreTrue (n + 1) asked es
+pub true_more : (n : ℕ) (asked : List Lit) (es : List Entry) (l : Lit) → n < length asked → get_or asked n l ≡ l → value_of es l ≡ Some true → AreTrueBefore n asked es → AreTrueBefore (n + 1) asked es
 true_more n asked es l h at v a k d lt le =
     elim (cases_eq k n) [
       | inl q ↦ (let x : get_or asked k d ≡ l = ap (λ (j : ℕ). get_or asked j d) q ∙ get_or_default asked n d l h ∙ at in subst (λ (y : Lit). value_of es y ≡ Some true) (sym x) v)
@@ -62,7 +62,7 @@ true_more n asked es l h at v a k d lt le =
     ]
 
 -- with the assumption of a place decided
-pub true_decided : (n : ℕ) (asked : List Lit) (es : List Entry) (e : Entry) → n < length asked → get_or asked n e.lit ≡ e.lit → value_of es e.lit ≡ None → AreTrue n asked es → AreTrue (n + 1) asked (e ∷ es)
+pub true_decided : (n : ℕ) (asked : List Lit) (es : List Entry) (e : Entry) → n < length asked → get_or asked n e.lit ≡ e.lit → value_of es e.lit ≡ None → AreTrueBefore n asked es → AreTrueBefore (n + 1) asked (e ∷ es)
 true_decided n asked es e h at f a = true_more n asked (e ∷ es) e.lit h at (value_own es e) (true_opened n asked es e f a)
 
 decides_raise : (asked : List Lit) (lv m n : ℕ) (es : List Entry) → IsStacked lv es → lv ≤ m → DecidesOnly asked m es → DecidesOnly asked n es
@@ -76,31 +76,31 @@ asking_settled asked k t t' a tr tr' l u d f = record {
   le = omega (arith, a.le);
   decides = d;
   each = λ j h. elim (cases_lt j t.level) [
-    | inl g ↦ subst (AreTrue j asked) (sym (u j g)) (a.each j h)
+    | inl g ↦ subst (AreTrueBefore j asked) (sym (u j g)) (a.each j h)
     | inr g ↦ (let q : t.level ≡ j = omega (arith, a.le) in
         let old : upto j t.entries ≡ t.entries = upto_whole j t.entries (subst (λ (n : ℕ). IsStacked n t.entries) q tr.stacked) in
         let new : upto j t'.entries ≡ t'.entries = upto_whole j t'.entries (subst (λ (n : ℕ). IsStacked n t'.entries) (l ∙ q) tr'.stacked) in
-        subst (AreTrue j asked) (sym new) (true_kept j asked t.entries t'.entries f (subst (AreTrue j asked) old (a.each j h))))
+        subst (AreTrueBefore j asked) (sym new) (true_kept j asked t.entries t'.entries f (subst (AreTrueBefore j asked) old (a.each j h))))
   ];
   free = λ h. (let g : k < t.level = omega arith in subst (λ (es : List Entry). All (λ (x : Lit). value_of es x ≡ Some true) asked) (sym (u k g)) (a.free g));
 }
 
 -- the first assumptions are true, as many as there are levels that they opened
-pub asking_true : (asked : List Lit) (k : ℕ) (t : Trace) → IsAsking asked k t → IsTrace t → AreTrue k asked t.entries
+pub asking_true : (asked : List Lit) (k : ℕ) (t : Trace) → IsAsking asked k t → IsTrace t → AreTrueBefore k asked t.entries
 asking_true asked k t a tr = true_kept k asked (upto k t.entries) t.entries (λ l h. upto_value t.vars k t.entries l true tr.apart h) (a.each k (omega arith))
 
 -- the same after a literal was decided
-pub place_freed : (n : ℕ) (asked : List Lit) (t t' : Trace) (l : Lit) → value_of t.entries l ≡ None → AreTrue n asked t.entries →
-    (let u : Trace = record { vars = t.vars; level = t.level + 1; entries = record { lit = l; level = t.level + 1; reason = None } ∷ t.entries } in t' ≡ u) → AreTrue n asked t'.entries
+pub place_freed : (n : ℕ) (asked : List Lit) (t t' : Trace) (l : Lit) → value_of t.entries l ≡ None → AreTrueBefore n asked t.entries →
+    (let u : Trace = record { vars = t.vars; level = t.level + 1; entries = record { lit = l; level = t.level + 1; reason = None } ∷ t.entries } in t' ≡ u) → AreTrueBefore n asked t'.entries
 place_freed n asked t t' l v p e =
     let x : Entry = record { lit = l; level = t.level + 1; reason = None } in
-    subst (AreTrue n asked) (sym (ap (λ (u : Trace). u.entries) e)) (true_opened n asked t.entries x v p)
+    subst (AreTrueBefore n asked) (sym (ap (λ (u : Trace). u.entries) e)) (true_opened n asked t.entries x v p)
 
-pub place_decided : (n : ℕ) (asked : List Lit) (t t' : Trace) (l : Lit) → n < length asked → get_or asked n l ≡ l → value_of t.entries l ≡ None → AreTrue n asked t.entries →
-    (let u : Trace = record { vars = t.vars; level = t.level + 1; entries = record { lit = l; level = t.level + 1; reason = None } ∷ t.entries } in t' ≡ u) → AreTrue (n + 1) asked t'.entries
+pub place_decided : (n : ℕ) (asked : List Lit) (t t' : Trace) (l : Lit) → n < length asked → get_or asked n l ≡ l → value_of t.entries l ≡ None → AreTrueBefore n asked t.entries →
+    (let u : Trace = record { vars = t.vars; level = t.level + 1; entries = record { lit = l; level = t.level + 1; reason = None } ∷ t.entries } in t' ≡ u) → AreTrueBefore (n + 1) asked t'.entries
 place_decided n asked t t' l h at v p e =
     let x : Entry = record { lit = l; level = t.level + 1; reason = None } in
-    subst (AreTrue (n + 1) asked) (sym (ap (λ (u : Trace). u.entries) e)) (true_decided n asked t.entries x h at v p)
+    subst (AreTrueBefore (n + 1) asked) (sym (ap (λ (u : Trace). u.entries) e)) (true_decided n asked t.entries x h at v p)
 
 -- an assumption that is not true shows that all levels were opened by assumptions
 pub asking_all : (asked : List Lit) (k : ℕ) (t : Trace) (l : Lit) → IsAsking asked k t → IsTrace t → Contains asked l → value_of t.entries l ≢ Some true → k ≡ t.level
@@ -110,7 +110,7 @@ asking_all asked k t l a tr c n =
       | inr h ↦ omega (arith, a.le)
     ]
 
-pub asking_assumed : (asked : List Lit) (k n : ℕ) (t t' : Trace) (l : Lit) → IsAsking asked k t → IsTrace t → k ≤ n → AreTrue n asked t.entries → n < length asked → get_or asked n l ≡ l → value_of t.entries l ≡ None →
+pub asking_assumed : (asked : List Lit) (k n : ℕ) (t t' : Trace) (l : Lit) → IsAsking asked k t → IsTrace t → k ≤ n → AreTrueBefore n asked t.entries → n < length asked → get_or asked n l ≡ l → value_of t.entries l ≡ None →
     (let u : Trace = record { vars = t.vars; level = t.level + 1; entries = record { lit = l; level = t.level + 1; reason = None } ∷ t.entries } in t' ≡ u) → IsAsking asked t'.level t'
 asking_assumed asked k n t t' l a tr kn p h at v e =
     let c : Contains asked l = (n, h, at) in
@@ -118,15 +118,15 @@ asking_assumed asked k n t t' l a tr kn p h at v e =
     let d : DecidesOnly asked (t.level + 1) t.entries = decides_raise asked t.level k (t.level + 1) t.entries tr.stacked (omega arith) a.decides in
     let x : Entry = record { lit = l; level = t.level + 1; reason = None } in
     let u : Trace = record { vars = t.vars; level = t.level + 1; entries = x ∷ t.entries } in
-    let each : (j : ℕ) → j ≤ t.level + 1 → AreTrue j asked (upto j (x ∷ t.entries)) = λ j le. elim (cases_lt t.level j) [
+    let each : (j : ℕ) → j ≤ t.level + 1 → AreTrueBefore j asked (upto j (x ∷ t.entries)) = λ j le. elim (cases_lt t.level j) [
       | inl g ↦ (let up : nat_le (t.level + 1) j ≡ true = grind arith in
           let st : upto j (x ∷ t.entries) ≡ x ∷ t.entries = rw up refl in
           let all = true_decided n asked t.entries x h at v p in
           let j' : j ≤ n + 1 = omega arith in
-          subst (AreTrue j asked) (sym st) (λ i y lt le'. all i y (omega arith) le'))
+          subst (AreTrueBefore j asked) (sym st) (λ i y lt le'. all i y (omega arith) le'))
       | inr g ↦ (let up : nat_le (t.level + 1) j ≡ false = grind arith in
           let st : upto j (x ∷ t.entries) ≡ upto j t.entries = rw up refl in
-          subst (AreTrue j asked) (sym st) (a.each j (omega arith)))
+          subst (AreTrueBefore j asked) (sym st) (a.each j (omega arith)))
     ] in
     let r : IsAsking asked u.level u = record { le = omega arith; decides = ((λ _ _. contains_has asked l c), d); each = each; free = λ g. absurd (omega arith) } in
     subst (λ (y : Trace). IsAsking asked y.level y) (sym e) r
@@ -145,7 +145,7 @@ asking_freed asked k t t' l a tr all e =
     let r : IsAsking asked k u = record {
       le = omega (arith, a.le);
       decides = ((λ _ h. absurd (omega (arith, a.le))), a.decides);
-      each = λ j h. (let up : nat_le (t.level + 1) j ≡ false = grind (arith, a.le) in let still : upto j (d ∷ t.entries) ≡ upto j t.entries = rw up refl in subst (AreTrue j asked) (sym still) (a.each j h));
+      each = λ j h. (let up : nat_le (t.level + 1) j ≡ false = grind (arith, a.le) in let still : upto j (d ∷ t.entries) ≡ upto j t.entries = rw up refl in subst (AreTrueBefore j asked) (sym still) (a.each j h));
       free = λ _. subst (λ (es : List Entry). All (λ (x : Lit). value_of es x ≡ Some true) asked) (sym st) f;
     } in
     subst (IsAsking asked k) (sym e) r
@@ -157,7 +157,7 @@ asking_back asked k m b t t' a le mk mb same e =
     let r : IsAsking asked m u = record {
       le = mb;
       decides = decides_upto asked m b t.entries (decides_less asked m k t.entries mk a.decides);
-      each = λ j h. subst (AreTrue j asked) (sym (upto_upto j b t.entries (omega arith))) (a.each j (omega arith));
+      each = λ j h. subst (AreTrueBefore j asked) (sym (upto_upto j b t.entries (omega arith))) (a.each j (omega arith));
       free = λ h. (let q = same h in let kb : k < t.level = omega arith in
           subst (λ (es : List Entry). All (λ (x : Lit). value_of es x ≡ Some true) asked) (sym (ap (λ (n : ℕ). upto n (upto b t.entries)) q ∙ upto_upto k b t.entries (omega arith))) (a.free kb));
     } in

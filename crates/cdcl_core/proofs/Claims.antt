@@ -1,5 +1,5 @@
 -- Lemmas on claimed steps.
-use Rattle.std.proofs.Common.{◌≡◌, ℕ, ◌-◌, ◌≤◌, true, false, List, [], ◌∷◌, ◌++◌, length, refl, ap, sym, ◌∙◌, rules, arith, inl, inr, subst, suc, Some, None, drop}
+use Rattle.std.proofs.Common.{◌≡◌, ℕ, ◌-◌, ◌≤◌, true, false, List, [], ◌∷◌, ◌++◌, length, refl, ap, sym, ◌∙◌, arith, inl, inr, subst, suc, Some, None, drop}
 use Rattle.std.specs.Prelude.{slice_get}
 use Rattle.std.proofs.lemmas.Bool.{cases_Bool}
 use Rattle.clause_store.specs.declared.lit.Lit.{Lit}
@@ -8,7 +8,7 @@ use Rattle.clause_store.proofs.Lits.{negated-twice}
 use Rattle.watch_lists.specs.declared.entry.Entry.{Entry}
 use Rattle.watch_lists.specs.Trace.{Attached, IsStacked, StandIn, oldest}
 use Rattle.derivation_log.specs.declared.step.Link.{Link}
-use Rattle.log_checker.specs.Refutes.{Refutes}
+use Rattle.clause_store.specs.Refutes.{Refutes}
 use Rattle.solver_laws.specs.Ready.{IsFalseIn, IsJustified, DecidesOnly, IsBarred, IsLesson}
 use Rattle.std.specs.List.{AllByRecursion}
 use Rattle.solver_laws.proofs.Rooms.{same_lit-is, each_map, each_resolvent, each_lacks, false_before}

@@ -1,5 +1,5 @@
 -- Lemmas on answers.
-use Rattle.std.proofs.Common.{◌≡◌, ◌≢◌, ℕ, ◌+◌, ◌-◌, ◌<◌, ◌≤◌, Bool, true, false, not, List, [], ◌∷◌, ◌++◌, length, refl, ap, sym, ◌∙◌, rules, arith, cond, eqb, inl, inr, subst, zero, suc, Some, None, Option, get_or, map, append_assoc, length-append}
+use Rattle.std.proofs.Common.{◌≡◌, ◌≢◌, ℕ, ◌+◌, ◌-◌, ◌<◌, ◌≤◌, Bool, true, false, not, List, [], ◌∷◌, ◌++◌, length, refl, ap, sym, ◌∙◌, arith, cond, eqb, inl, inr, subst, zero, suc, Some, None, Option, get_or, map, append_assoc, length-append}
 use Rattle.std.specs.Prelude.{All, Contains, AllPairs, ◌⊎◌, slice_get, unwrap_or}
 use Rattle.std.proofs.lemmas.Bool.{cases_lt, cases_eq, cases_Bool}
 use Rattle.std.proofs.Math.Bool.{beq}
@@ -14,15 +14,14 @@ use Rattle.derivation_log.specs.Logs.{Log, known_of, is_learned}
 use Rattle.derivation_log.specs.declared.step.Step.{Step}
 use Rattle.solver_laws.specs.Ready.{IsFalseIn, IsReason, IsJustified, DecidesOnly, IsBarred, IsLog}
 use Rattle.std.specs.List.{AllByRecursion}
-use Rattle.solver_laws.proofs.Rooms.{or_left, or_right, room_cons, room_false, each_map, same_lit-is, contains_has}
+use Rattle.solver_laws.proofs.Rooms.{room_cons, room_false, each_map, same_lit-is, contains_has}
 use Rattle.solver_laws.proofs.Steps.{drop_false}
 use Rattle.solver_laws.proofs.Turns.{all_map}
 use Rattle.watch_lists.proofs.Traces.{entry_of-var}
 use Rattle.watch_lists.proofs.Scans.{contains_all}
 use Rattle.clause_store.specs.Truth.{clause_true, lit_true, values_of, AreTrue}
-use Rattle.clause_store.proofs.Truths.{each_satisfies}
+use Rattle.clause_store.proofs.Truths.{each_satisfies, or_left, or_right}
 use Rattle.clause_store.proofs.Each.{each_index, each_of_index}
-use Rattle.clause_store.proofs.Numbered.{some_clause}
 use Rattle.clause_store.proofs.Lits.{negated-twice}
 use Rattle.std.proofs.Math.ListN.{set, length-set}
 use Rattle.std.proofs.Common.{get_or-set_other, get_or-set_same}

@@ -3,7 +3,7 @@ use Rattle.std.specs.Prelude.{◌≡◌, ℕ, ◌<◌, ◌≤◌, true, false, L
 use Rattle.clause_store.specs.declared.lit.Lit.{Lit}
 use Rattle.watch_lists.specs.Trace.{Trace, Attached, value_of, upto, IsComplete, IsFalsified}
 use Rattle.solver_laws.specs.Ready.{DecidesOnly}
-use Rattle.cdcl_core.specs.Choices.{AreTrue, IsFull}
+use Rattle.cdcl_core.specs.Choices.{AreTrueBefore, IsFull}
 use Rattle.cdcl_core.specs.declared.engine.Turn.{Turn}
 use Rattle.cdcl_core.specs.declared.engine.Turn.TheVariants.{Conflict, Contrary, Full}
 
@@ -12,7 +12,7 @@ use Rattle.cdcl_core.specs.declared.engine.Turn.TheVariants.{Conflict, Contrary,
 pub record IsAsking (asked : List Lit) (assumed : ℕ) (t : Trace) : Type 0 where
   pub le : assumed ≤ t.level
   pub decides : DecidesOnly asked assumed t.entries
-  pub each : (k : ℕ) → k ≤ assumed → AreTrue k asked (upto k t.entries)
+  pub each : (k : ℕ) → k ≤ assumed → AreTrueBefore k asked (upto k t.entries)
   pub free : assumed < t.level → All (λ (l : Lit). value_of (upto assumed t.entries) l ≡ Some true) asked
 
 abbrev pub IsTurn : List Lit → ℕ → List Attached → Trace → Turn → Type 0

@@ -15,8 +15,8 @@ abbrev pub IsFull : Trace → Type 0
 IsFull t = (v : ℕ) → 1 ≤ v → v ≤ t.vars → value_of t.entries (record { var = v; positive = false }) ≢ None
 
 -- each assumption before the place is true
-abbrev pub AreTrue : ℕ → List Lit → List Entry → Type 0
-AreTrue place asked es = (k : ℕ) (d : Lit) → k < place → k < length asked → value_of es (slice_index_or asked k d) ≡ Some true
+abbrev pub AreTrueBefore : ℕ → List Lit → List Entry → Type 0
+AreTrueBefore place asked es = (k : ℕ) (d : Lit) → k < place → k < length asked → value_of es (slice_index_or asked k d) ≡ Some true
 
 -- a literal that is assumed stands at the place
 abbrev pub IsChosen : ℕ → List Lit → Trace → Choice → Type 0

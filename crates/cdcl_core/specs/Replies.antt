@@ -5,7 +5,7 @@ use Rattle.clause_store.specs.declared.lit.Lit.{Lit}
 use Rattle.clause_store.specs.Truth.{lit_true, values_of, AreTrue}
 use Rattle.derivation_log.specs.declared.step.Step.{Step}
 use Rattle.derivation_log.specs.Logs.{Log, known_of, is_learned}
-use Rattle.log_checker.specs.Refutes.{Refutes}
+use Rattle.clause_store.specs.Refutes.{Refutes}
 use Rattle.solver_laws.specs.Ready.{IsLog}
 use Rattle.cdcl_core.specs.declared.reply.Reply.{Reply}
 use Rattle.cdcl_core.specs.declared.reply.Reply.TheVariants.{Found, Refuted, GaveUp}

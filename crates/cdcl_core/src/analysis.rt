@@ -1,11 +1,12 @@
 // Conflict analysis: back along the trail by resolution.
-ghost use Rattle.std.specs.Prelude.{◌≡◌, ◌+◌, ◌-◌, ◌<◌, ◌≤◌, ℕ, true, false, length, IfOk, slice_get, Some, All, Contains, ◌≢◌, nat_lt, if◌then◌else◌};
-ghost use Rattle.clause_store.specs.Lits.{Ascends, negated, InRange, has};
-ghost use Rattle.derivation_log.specs.Logs.{Log, known_of};
-ghost use Rattle.watch_lists.specs.Trace.{Trace, Attached, room_of, upto, value_of, IsTrace, IsFalsified, StandIn, IsComplete, room_in};
+ghost use Rattle.std.specs.Prelude.{◌≡◌, ◌+◌, ◌-◌, ◌<◌, ◌≤◌, ℕ, false, length, IfOk, Some, nat_lt};
+ghost use Rattle.std.specs.Prelude.{if◌then◌else◌};
+ghost use Rattle.clause_store.specs.Lits.{InRange};
+ghost use Rattle.watch_lists.specs.Trace.{room_of, upto, value_of, IsFalsified, IsComplete};
+ghost use Rattle.watch_lists.specs.Trace.{room_in};
 ghost use Rattle.clause_store.specs.Clauses.{clause_at};
-ghost use Rattle.solver_laws.specs.Ready.{IsFalseIn, IsJustified, IsLesson, IsBarred, DecidesOnly};
-ghost use Rattle.log_checker.specs.Refutes.{Refutes};
+ghost use Rattle.solver_laws.specs.Ready.{IsFalseIn, IsLesson, IsBarred, DecidesOnly};
+ghost use Rattle.clause_store.specs.Refutes.{Refutes};
 ghost use Rattle.std.specs.List.{AllByRecursion};
 ghost use Rattle.cdcl_core.specs.Analysis.{CanAnalyse};
 
@@ -26,13 +27,14 @@ pub struct Lesson {
     pub chain: Chain,
 }
 
-// The level of a false literal.
+/// The level of a false literal.
 fn level_at(trail: &Trail, lit: Lit) -> u32
     requires named { 1 ≤ lit.var }
     requires in_range { lit.var ≤ trail.now.vars }
     requires is_false { value_of trail.now.entries lit ≡ Some false }
     ensures within { result ≤ trail.now.level }
-    ensures room { (k : ℕ) → room_in (value_of (upto k trail.now.entries) lit) ≡ (if nat_lt k result then 1 else 0) }
+    ensures room { (k : ℕ) → room_in (value_of (upto k trail.now.entries) lit) ≡
+        (if nat_lt k result then 1 else 0) }
 {
     trail.facts();
     match trail.level_of(lit.var) {
@@ -41,7 +43,7 @@ fn level_at(trail: &Trail, lit: Lit) -> u32
     }
 }
 
-// How many of the literals are of the trail's level.
+/// How many of the literals are of the trail's level.
 fn count_at(lits: &[Lit], trail: &Trail) -> usize
     requires in_range { InRange trail.now.vars lits.now }
     requires is_false { AllByRecursion (IsFalseIn trail.now.entries) lits.now }
@@ -63,7 +65,8 @@ pub fn back_level(lits: &[Lit], trail: &Trail, restart: bool) -> u32
     requires is_false { AllByRecursion (IsFalseIn trail.now.entries) lits.now }
     requires level { 1 ≤ trail.now.level }
     ensures below { result < trail.now.level }
-    ensures room { (k : ℕ) → k < result → room_of (upto (trail.now.level - 1) trail.now.entries) lits.now + 1 ≤ room_of (upto k trail.now.entries) lits.now }
+    ensures room { (k : ℕ) → k < result → room_of (upto (trail.now.level - 1) trail.now.entries)
+        lits.now + 1 ≤ room_of (upto k trail.now.entries) lits.now }
 {
     if restart {
         return 0;
@@ -88,11 +91,15 @@ pub fn learn<P: Propagator>(
 ) -> Result<Lesson, NoMemory>
     requires can { CanAnalyse known.now (P.attached propagator.now) trail.now }
     requires level { 1 ≤ trail.now.level }
-    requires complete { IsComplete (P.attached propagator.now) (upto (trail.now.level - 1) trail.now.entries) }
+    requires complete { IsComplete (P.attached propagator.now)
+        (upto (trail.now.level - 1) trail.now.entries) }
     requires falsified { IsFalsified (P.attached propagator.now) trail.now.entries first }
-    ensures lesson { IfOk result (λ made. IsLesson known.now.list known.now.vars made.first made.chain made.clause) }
-    ensures is_false { IfOk result (λ made. AllByRecursion (IsFalseIn trail.now.entries) made.clause) }
-    ensures one { IfOk result (λ made. room_of (upto (trail.now.level - 1) trail.now.entries) made.clause ≡ 1) }
+    ensures lesson { IfOk result (λ made. IsLesson known.now.list known.now.vars made.first made.chain
+        made.clause) }
+    ensures is_false { IfOk result (λ made. AllByRecursion
+        (IsFalseIn trail.now.entries) made.clause) }
+    ensures one { IfOk result (λ made. room_of (upto (trail.now.level - 1) trail.now.entries)
+        made.clause ≡ 1) }
 {
     let _ = propagator;
     let mut clause = Clause::from_sorted(alloc, known.clause(first))?;
@@ -135,8 +142,10 @@ pub fn claim<P: Propagator>(
     requires can { CanAnalyse known.now (P.attached propagator.now) trail.now }
     requires decides { DecidesOnly assumptions.now trail.now.level trail.now.entries }
     requires within { first < length known.now.list }
-    requires barred { AllByRecursion (IsBarred assumptions.now trail.now.entries) (clause_at known.now.list first) }
-    ensures lesson { IfOk result (λ made. IsLesson known.now.list known.now.vars made.first made.chain made.clause) }
+    requires barred { AllByRecursion (IsBarred assumptions.now trail.now.entries)
+        (clause_at known.now.list first) }
+    ensures lesson { IfOk result (λ made. IsLesson known.now.list known.now.vars made.first made.chain
+        made.clause) }
     ensures refutes { IfOk result (λ made. Refutes made.clause assumptions.now) }
 {
     let _ = propagator;

@@ -1,9 +1,7 @@
 // What to decide next.
-ghost use Rattle.std.specs.Prelude.{◌≡◌, ◌+◌, ◌-◌, ◌<◌, ◌≤◌, ℕ, true, false, length, IfOk, IfSome, IfNone, Some, None, All};
-ghost use Rattle.clause_store.specs.declared.lit.Lit.{Lit};
+ghost use Rattle.std.specs.Prelude.{◌≤◌, IfOk, IfSome, IfNone};
 ghost use Rattle.clause_store.specs.Lits.{InRange};
-ghost use Rattle.watch_lists.specs.Trace.{Trace, value_of};
-ghost use Rattle.cdcl_core.specs.Choices.{AreTrue, IsChosen, IsFree, IsFull, HasValues};
+ghost use Rattle.cdcl_core.specs.Choices.{AreTrueBefore, IsChosen, IsFree, IsFull, HasValues};
 
 use crate::order::Order;
 use clause_store::{Assignment, Lit};
@@ -23,13 +21,13 @@ pub enum Choice {
     Full,
 }
 
-/// A decision that is due: assumptions first, and then the variables in their order. All assumptions before the place
-/// are true, and it moves on to the first that is not.
+/// A decision that is due: assumptions first, and then the variables in their order. All
+/// assumptions before the place are true, and it moves on to the first that is not.
 pub fn choose(assumptions: &[Lit], place: &mut usize, trail: &Trail, order: &mut Order) -> Choice
     requires in_range { InRange trail.now.vars assumptions.now }
-    requires before { AreTrue place.old assumptions.now trail.now.entries }
+    requires before { AreTrueBefore place.old assumptions.now trail.now.entries }
     ensures on { place.old ≤ place.new }
-    ensures before { AreTrue place.new assumptions.now trail.now.entries }
+    ensures before { AreTrueBefore place.new assumptions.now trail.now.entries }
     ensures chosen { IsChosen place.new assumptions.now trail.now result }
 {
     'past: while *place < assumptions.len() {
@@ -49,7 +47,7 @@ pub fn choose(assumptions: &[Lit], place: &mut usize, trail: &Trail, order: &mut
     }
 }
 
-// The next literal in the order that has no value.
+/// The next literal in the order that has no value.
 fn next_free(trail: &Trail, order: &mut Order) -> Option<Lit>
     ensures { IfSome result (IsFree trail.now) }
 {
@@ -62,17 +60,14 @@ fn next_free(trail: &Trail, order: &mut Order) -> Option<Lit>
     None
 }
 
-// The literal of the first variable that has no value; `None` exactly where all have one.
+/// The literal of the first variable that has no value; `None` exactly where all have one.
 fn first_free(trail: &Trail) -> Option<Lit>
     ensures some { IfSome result (IsFree trail.now) }
     ensures none { IfNone result (IsFull trail.now) }
 {
     trail.facts();
     for index in 0..trail.vars() {
-        let lit = Lit {
-            var: index + 1,
-            positive: false,
-        };
+        let lit = Lit::negative(index + 1);
         if trail.value(lit).is_none() {
             return Some(lit);
         }
@@ -87,10 +82,7 @@ pub fn values(alloc: Global, trail: &Trail) -> Result<Assignment, NoMemory>
     trail.facts();
     let mut made = Assignment::new(alloc, trail.vars())?;
     for index in 0..trail.vars() {
-        let lit = Lit {
-            var: index + 1,
-            positive: true,
-        };
+        let lit = Lit::positive(index + 1);
         made.set(index + 1, trail.value(lit).unwrap_or(false));
     }
     Ok(made)

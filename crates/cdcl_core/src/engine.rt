@@ -1,10 +1,12 @@
 // The solver's steps, each of which keeps what holds between them.
-ghost use Rattle.std.specs.Prelude.{◌≡◌, ◌+◌, ◌-◌, ◌<◌, ◌≤◌, ◌∷◌, [], ◌++◌, ℕ, List, Bool, true, false, length, IfOk, OnOk, OnErr, IfSome, IfNone, Some, None, Contains, ◌⊎◌};
+ghost use Rattle.std.specs.Prelude.{◌≡◌, ◌+◌, ◌-◌, ◌<◌, ◌≤◌, ◌∷◌, ℕ, List, true, length, IfOk};
+ghost use Rattle.std.specs.Prelude.{OnOk, OnErr, IfSome, IfNone, Some, None};
 ghost use Rattle.clause_store.specs.declared.lit.Lit.{Lit};
-ghost use Rattle.derivation_log.specs.Logs.{Log, known_of};
-ghost use Rattle.watch_lists.specs.Trace.{Trace, room_of, upto, value_of, IsTrace, IsFalsified, IsComplete, entry_of, reason_in, places_of};
+ghost use Rattle.derivation_log.specs.Logs.{known_of};
+ghost use Rattle.watch_lists.specs.Trace.{room_of, upto, value_of, IsFalsified, IsComplete};
+ghost use Rattle.watch_lists.specs.Trace.{places_of};
 ghost use Rattle.clause_store.specs.Clauses.{clause_at};
-ghost use Rattle.solver_laws.specs.Ready.{IsFalseIn, IsLesson, IsBarred, DecidesOnly, IsReady, IsLog};
+ghost use Rattle.solver_laws.specs.Ready.{IsFalseIn, IsLesson, IsBarred, DecidesOnly, IsReady};
 ghost use Rattle.std.specs.List.{AllByRecursion};
 ghost use Rattle.cdcl_core.specs.Asking.{IsAsking, IsTurn};
 ghost use Rattle.clause_store.specs.Lits.{InRange};
@@ -26,18 +28,23 @@ pub fn settle<P: Propagator>(
     trail: &mut Trail,
     propagator: &mut P,
 ) -> Option<u64>
-    requires { IsReady log.now (P.attached propagator.old) (P.followed propagator.old) (P.vars propagator.old) trail.old }
-    ensures ready { IsReady log.now (P.attached propagator.new) (P.followed propagator.new) (P.vars propagator.new) trail.new }
+    requires { IsReady log.now (P.attached propagator.old) (P.followed propagator.old)
+        (P.vars propagator.old) trail.old }
+    ensures ready { IsReady log.now (P.attached propagator.new) (P.followed propagator.new)
+        (P.vars propagator.new) trail.new }
     ensures found { IfSome result (IsFalsified (P.attached propagator.new) trail.new.entries) }
     ensures complete { IfNone result (IsComplete (P.attached propagator.new) trail.new.entries) }
     ensures followed { IfNone result (P.followed propagator.new ≡ places_of trail.new.entries) }
     ensures level { trail.new.level ≡ trail.old.level }
-    ensures below { (k : ℕ) → k < trail.old.level → upto k trail.new.entries ≡ upto k trail.old.entries }
+    ensures below { (k : ℕ) → k < trail.old.level → upto k trail.new.entries ≡
+        upto k trail.old.entries }
     ensures more { length trail.old.entries ≤ length trail.new.entries }
     ensures vars { P.vars propagator.new ≡ P.vars propagator.old }
     ensures trail_vars { trail.new.vars ≡ trail.old.vars }
-    ensures decides { (asked : List Lit) (k : ℕ) → DecidesOnly asked k trail.old.entries → DecidesOnly asked k trail.new.entries }
-    ensures kept { (l : Lit) → value_of trail.old.entries l ≡ Some true → value_of trail.new.entries l ≡ Some true }
+    ensures decides { (asked : List Lit) (k : ℕ) → DecidesOnly asked k trail.old.entries →
+        DecidesOnly asked k trail.new.entries }
+    ensures kept { (l : Lit) → value_of trail.old.entries l ≡ Some true →
+        value_of trail.new.entries l ≡ Some true }
 {
     propagator.propagate(log.known(), trail)
 }
@@ -50,10 +57,17 @@ pub fn retreat<P: Propagator>(
     order: &mut Order,
     level: u32,
 )
-    requires ready { IsReady log.now (P.attached propagator.old) (P.followed propagator.old) (P.vars propagator.old) trail.old }
+    requires ready { IsReady log.now (P.attached propagator.old) (P.followed propagator.old)
+        (P.vars propagator.old) trail.old }
     requires level { level ≤ trail.old.level }
-    ensures ready { IsReady log.now (P.attached propagator.new) (P.followed propagator.new) (P.vars propagator.new) trail.new }
-    ensures trail { trail.new ≡ record { vars = trail.old.vars; level = level; entries = upto level trail.old.entries } }
+    ensures ready { IsReady log.now (P.attached propagator.new) (P.followed propagator.new)
+        (P.vars propagator.new) trail.new }
+    ensures trail { trail.new ≡ record {
+      vars = trail.old.vars;
+      level = level;
+      entries = upto level
+          trail.old.entries;
+    } }
     ensures attached { P.attached propagator.new ≡ P.attached propagator.old }
     ensures vars { P.vars propagator.new ≡ P.vars propagator.old }
 {
@@ -68,14 +82,21 @@ pub fn retreat<P: Propagator>(
 
 /// Decides a literal, after propagation found no conflict.
 pub fn open<P: Propagator>(log: &Derivations, trail: &mut Trail, propagator: &P, lit: Lit)
-    requires ready { IsReady log.now (P.attached propagator.now) (P.followed propagator.now) (P.vars propagator.now) trail.old }
+    requires ready { IsReady log.now (P.attached propagator.now) (P.followed propagator.now)
+        (P.vars propagator.now) trail.old }
     requires complete { IsComplete (P.attached propagator.now) trail.old.entries }
     requires followed { P.followed propagator.now ≡ places_of trail.old.entries }
     requires named { 1 ≤ lit.var }
     requires in_range { lit.var ≤ trail.old.vars }
     requires free { value_of trail.old.entries lit ≡ None }
-    ensures ready { IsReady log.now (P.attached propagator.now) (P.followed propagator.now) (P.vars propagator.now) trail.new }
-    ensures trail { trail.new ≡ record { vars = trail.old.vars; level = trail.old.level + 1; entries = record { lit = lit; level = trail.old.level + 1; reason = None } ∷ trail.old.entries } }
+    ensures ready { IsReady log.now (P.attached propagator.now) (P.followed propagator.now)
+        (P.vars propagator.now) trail.new }
+    ensures trail { trail.new ≡ record {
+      vars = trail.old.vars;
+      level = trail.old.level + 1;
+      entries = record
+          { lit = lit; level = trail.old.level + 1; reason = None } ∷ trail.old.entries;
+    } }
     ensures within { length trail.new.entries ≤ trail.new.vars }
 {
     let _ = log;
@@ -93,16 +114,25 @@ pub fn keep<P: Propagator>(
     lesson: Lesson,
     restart: bool,
 ) -> Result<u32, NoMemory>
-    requires ready { IsReady log.old (P.attached propagator.old) (P.followed propagator.old) (P.vars propagator.old) trail.old }
+    requires ready { IsReady log.old (P.attached propagator.old) (P.followed propagator.old)
+        (P.vars propagator.old) trail.old }
     requires level { 1 ≤ trail.old.level }
-    requires lesson { IsLesson (known_of log.old) log.old.vars lesson.first lesson.chain lesson.clause }
+    requires lesson { IsLesson (known_of log.old) log.old.vars lesson.first lesson.chain
+        lesson.clause }
     requires is_false { AllByRecursion (IsFalseIn trail.old.entries) lesson.clause }
     requires one { room_of (upto (trail.old.level - 1) trail.old.entries) lesson.clause ≡ 1 }
     ensures log { IsKept log.old log.new }
     ensures learned { OnOk result (IsLearned log.old log.new) }
-    ensures ready { OnOk result (IsReady log.new (P.attached propagator.new) (P.followed propagator.new) (P.vars propagator.new) trail.new) }
+    ensures ready { OnOk result (IsReady log.new (P.attached propagator.new)
+        (P.followed propagator.new) (P.vars propagator.new) trail.new) }
     ensures lower { IfOk result (λ level. level < trail.old.level) }
-    ensures trail { IfOk result (λ level. trail.new ≡ record { vars = trail.old.vars; level = level; entries = upto level trail.old.entries }) }
+    ensures trail { IfOk result
+        (λ level. trail.new ≡ record {
+          vars = trail.old.vars;
+          level = level;
+          entries = upto level
+              trail.old.entries;
+        }) }
     ensures vars { P.vars propagator.new ≡ P.vars propagator.old }
 {
     let _ = log.known().len();
@@ -127,13 +157,17 @@ pub fn refute<P: Propagator>(
     first: u64,
     assumptions: &[Lit],
 ) -> Result<u64, NoMemory>
-    requires ready { IsReady log.old (P.attached propagator.now) (P.followed propagator.now) (P.vars propagator.now) trail.now }
+    requires ready { IsReady log.old (P.attached propagator.now) (P.followed propagator.now)
+        (P.vars propagator.now) trail.now }
     requires decides { DecidesOnly assumptions.now trail.now.level trail.now.entries }
     requires within { first < length (known_of log.old) }
-    requires barred { AllByRecursion (IsBarred assumptions.now trail.now.entries) (clause_at (known_of log.old) first) }
-    ensures ok { IfOk result (λ number. (number ≡ length (known_of log.old)) × IsClaimed log.old log.new assumptions.now) }
+    requires barred { AllByRecursion (IsBarred assumptions.now trail.now.entries)
+        (clause_at (known_of log.old) first) }
+    ensures ok { IfOk result (λ number. (number ≡ length (known_of log.old)) ×
+        IsClaimed log.old log.new assumptions.now) }
     ensures err { OnErr result (log.new ≡ log.old) }
-    ensures ready { IsReady log.new (P.attached propagator.now) (P.followed propagator.now) (P.vars propagator.now) trail.now }
+    ensures ready { IsReady log.new (P.attached propagator.now) (P.followed propagator.now)
+        (P.vars propagator.now) trail.now }
 {
     let made = claim(alloc, log.known(), trail, propagator, first, assumptions)?;
     let number = log.append(Step {
@@ -155,7 +189,8 @@ pub enum Turn {
     Full,
 }
 
-/// Decides and propagates, until there is a conflict or a false assumption or nothing left to decide.
+/// Decides and propagates, until there is a conflict or a false assumption or nothing left to
+/// decide.
 pub fn descend<P: Propagator>(
     log: &Derivations,
     trail: &mut Trail,
@@ -164,10 +199,12 @@ pub fn descend<P: Propagator>(
     assumptions: &[Lit],
     assumed: u32,
 ) -> (u32, Turn)
-    requires ready { IsReady log.now (P.attached propagator.old) (P.followed propagator.old) (P.vars propagator.old) trail.old }
+    requires ready { IsReady log.now (P.attached propagator.old) (P.followed propagator.old)
+        (P.vars propagator.old) trail.old }
     requires in_range { InRange trail.old.vars assumptions.now }
     requires asking { IsAsking assumptions.now assumed trail.old }
-    ensures ready { IsReady log.now (P.attached propagator.new) (P.followed propagator.new) (P.vars propagator.new) trail.new }
+    ensures ready { IsReady log.now (P.attached propagator.new) (P.followed propagator.new)
+        (P.vars propagator.new) trail.new }
     ensures asking { IsAsking assumptions.now result.0 trail.new }
     ensures turn { IsTurn assumptions.now result.0 (P.attached propagator.new) trail.new result.1 }
     ensures vars { trail.new.vars ≡ trail.old.vars }

@@ -6,7 +6,8 @@ use clause_store::Assignment;
 pub enum Reply {
     /// an assignment under which the main clauses and the assumptions are true
     Found(Assignment),
-    /// the number of a step whose clause has negations of assumptions alone, so no such assignment exists
+    /// the number of a step whose clause has negations of assumptions alone, so no such assignment
+    /// exists
     Refuted(u64),
     /// the budget was spent; the number of the first step that the question appended
     GaveUp(u64),

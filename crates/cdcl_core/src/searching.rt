@@ -1,14 +1,11 @@
 // The solver: decide, propagate, learn.
-ghost use Rattle.std.specs.Prelude.{◌≡◌, ◌≢◌, ◌+◌, ◌-◌, ◌<◌, ◌≤◌, ◌∷◌, [], ◌++◌, ℕ, List, Bool, true, false, length, IfOk, OnOk, OnErr, IfSome, IfNone, Some, None, Contains, AllPairs, All};
-ghost use Rattle.clause_store.specs.declared.lit.Lit.{Lit};
+ghost use Rattle.std.specs.Prelude.{◌≡◌, ◌≢◌, false, length, IfOk, OnOk, OnErr, Some, Contains};
+ghost use Rattle.std.specs.Prelude.{AllPairs};
 ghost use Rattle.clause_store.specs.Lits.{InRange};
-ghost use Rattle.derivation_log.specs.Logs.{Log, known_of};
-ghost use Rattle.watch_lists.specs.Trace.{Trace, value_of, IsComplete};
+ghost use Rattle.derivation_log.specs.Logs.{known_of};
+ghost use Rattle.watch_lists.specs.Trace.{value_of};
 ghost use Rattle.solver_laws.specs.Ready.{IsReady, IsLog, DecidesOnly};
-ghost use Rattle.cdcl_core.specs.Turns.{IsKept};
-ghost use Rattle.cdcl_core.specs.Asking.{IsAsking, IsTurn};
 ghost use Rattle.cdcl_core.specs.Replies.{IsAnswered, IsLonger, IsClaimed};
-ghost use Rattle.cdcl_core.specs.Choices.{HasValues};
 
 use crate::analysis::learn;
 use crate::choice::values;
@@ -21,7 +18,7 @@ use edge::NoMemory;
 use std::alloc::Global;
 use watch_lists::{Propagator, Trail};
 
-// Appends the claimed step for an assumption that is false.
+/// Appends the claimed step for an assumption that is false.
 fn refute_contrary<P: Propagator>(
     alloc: Global,
     log: &mut Derivations,
@@ -30,15 +27,18 @@ fn refute_contrary<P: Propagator>(
     lit: Lit,
     assumptions: &[Lit],
 ) -> Result<u64, NoMemory>
-    requires ready { IsReady log.old (P.attached propagator.now) (P.followed propagator.now) (P.vars propagator.now) trail.now }
+    requires ready { IsReady log.old (P.attached propagator.now) (P.followed propagator.now)
+        (P.vars propagator.now) trail.now }
     requires decides { DecidesOnly assumptions.now trail.now.level trail.now.entries }
     requires distinct { AllPairs (λ a b. a.var ≢ b.var) assumptions.now }
     requires in_range { InRange trail.now.vars assumptions.now }
     requires asked { Contains assumptions.now lit }
     requires is_false { value_of trail.now.entries lit ≡ Some false }
-    ensures ok { IfOk result (λ number. (number ≡ length (known_of log.old)) × IsClaimed log.old log.new assumptions.now) }
+    ensures ok { IfOk result (λ number. (number ≡ length (known_of log.old)) ×
+        IsClaimed log.old log.new assumptions.now) }
     ensures err { OnErr result (log.new ≡ log.old) }
-    ensures ready { IsReady log.new (P.attached propagator.now) (P.followed propagator.now) (P.vars propagator.now) trail.now }
+    ensures ready { IsReady log.new (P.attached propagator.now) (P.followed propagator.now)
+        (P.vars propagator.now) trail.now }
 {
     trail.facts();
     match trail.reason_of(lit.var) {
@@ -60,11 +60,13 @@ pub fn search<P: Propagator>(
     assumptions: &[Lit],
     budget: u64,
 ) -> Result<Reply, NoMemory>
-    requires ready { IsReady log.old (P.attached propagator.old) (P.followed propagator.old) (P.vars propagator.old) trail.old }
+    requires ready { IsReady log.old (P.attached propagator.old) (P.followed propagator.old)
+        (P.vars propagator.old) trail.old }
     requires rest { trail.old.level ≡ 0 }
     requires in_range { InRange trail.old.vars assumptions.now }
     requires distinct { AllPairs (λ a b. a.var ≢ b.var) assumptions.now }
-    ensures ready { OnOk result (IsReady log.new (P.attached propagator.new) (P.followed propagator.new) (P.vars propagator.new) trail.new) }
+    ensures ready { OnOk result (IsReady log.new (P.attached propagator.new)
+        (P.followed propagator.new) (P.vars propagator.new) trail.new) }
     ensures rest { OnOk result (trail.new.level ≡ 0) }
     ensures answered { IfOk result (λ reply. IsAnswered log.old log.new assumptions.now budget reply) }
     ensures log { IsLog log.new }

@@ -1,9 +1,10 @@
 // A solver that keeps a log.
 
-ghost use Rattle.std.specs.Prelude.{◌≡◌, ◌≢◌, ◌+◌, ◌<◌, ◌≤◌, [], ◌∷◌, ◌++◌, Bool, true, false, length, take, map, IfOk, OnOk, OnErr, IsErr, AllPairs, ◌^◌};
+ghost use Rattle.std.specs.Prelude.{◌≡◌, ◌≢◌, ◌<◌, ◌≤◌, [], true, false, length, map, IfOk, OnOk};
+ghost use Rattle.std.specs.Prelude.{OnErr, IsErr, AllPairs, ◌^◌};
 ghost use Rattle.clause_store.specs.Lits.{InRange};
-ghost use Rattle.derivation_log.specs.Logs.{Log, known_of, learned_of, IsSound, IsNew};
-ghost use Rattle.watch_lists.specs.Trace.{Trace, StandIn, Attached};
+ghost use Rattle.derivation_log.specs.Logs.{known_of, learned_of, IsSound, IsNew};
+ghost use Rattle.watch_lists.specs.Trace.{StandIn, Attached};
 ghost use Rattle.solver_laws.specs.Ready.{IsLog, AllFit};
 ghost use Rattle.cdcl_core.specs.Replies.{IsAnswered, IsJust, IsLonger, IsDecided};
 ghost use Rattle.cdcl_core.specs.State.{State};
@@ -30,20 +31,25 @@ pub struct Solver<P: Propagator + Drop> {
 }
 
 impl<P: Propagator + Drop> Model for Solver<P> {
-    ghost use Rattle.std.specs.Prelude.{◌≡◌, Bool, true, false};
+    ghost use Rattle.std.specs.Prelude.{◌≡◌, true, false};
     ghost use Rattle.cdcl_core.specs.State.{State, IsResting};
 
     ghost Value = { State };
 
     ghost view = { λ s. record { log = s.log; failed = s.failed } };
 
-    ghost invariant = { λ s. IsResting s.log s.failed (P.attached s.propagator) (P.followed s.propagator) (P.vars s.propagator) s.trail };
+    ghost invariant = { λ s. IsResting s.log s.failed (P.attached s.propagator)
+        (P.followed s.propagator) (P.vars s.propagator) s.trail };
 }
 
 impl<P: Propagator + Drop> Solver<P> {
     /// A solver of the main clauses, with a log of no step; `NoMemory` for want of memory.
     pub fn new(alloc: Global, main: ClauseList) -> Result<Solver<P>, NoMemory>
-        ensures { IfOk result (λ s. s ≡ record { log = record { main = main.list; vars = main.vars; steps = [] }; failed = false }) }
+        ensures { IfOk result
+            (λ s. s ≡ record {
+              log = record { main = main.list; vars = main.vars; steps = [] };
+              failed = false;
+            }) }
     {
         let vars = main.vars();
         let trail = Trail::new(alloc, vars)?;
@@ -85,9 +91,10 @@ impl<P: Propagator + Drop> Solver<P> {
         log
     }
 
-    /// Asks whether some assignment makes the main clauses and the assumptions true. At most `budget` steps are
-    /// learned; with the last of them the question is given up, if it is not answered before. Once memory is
-    /// wanting, every later question answers so, and the log still has steps alone that follow.
+    /// Asks whether some assignment makes the main clauses and the assumptions true. At most
+    /// `budget` steps are learned; with the last of them the question is given up, if it is not
+    /// answered before. Once memory is wanting, every later question answers so, and the log still
+    /// has steps alone that follow.
     pub fn ask(&mut self, assumptions: &[Lit], budget: u64) -> Result<Reply, NoMemory>
         requires in_range { InRange self.old.log.vars assumptions.now }
         requires distinct { AllPairs (λ a b. a.var ≢ b.var) assumptions.now }
@@ -97,14 +104,15 @@ impl<P: Propagator + Drop> Solver<P> {
         ensures grows { IsLonger self.old.log self.new.log }
         ensures sound { IsSound self.new.log.main self.new.log.steps }
 
-        // Learned clauses include no main clause and no earlier learned one, are not empty, and have no variable
-        // twice, so there are not many.
+        // Learned clauses include no main clause and no earlier learned one, are not empty, and
+        // have no variable twice, so there are not many.
         ensures new { IsNew self.new.log.main self.new.log.steps }
         ensures fit { AllFit self.new.log.vars self.new.log.steps }
         ensures distinct { AllPairs (λ c d. c ≢ d) (learned_of self.new.log.steps) }
         ensures few { length (learned_of self.new.log.steps) < 3 ^ self.new.log.vars }
 
-        ensures answered { IfOk result (λ reply. IsAnswered self.old.log self.new.log assumptions.now budget reply) }
+        ensures answered { IfOk result (λ reply. IsAnswered self.old.log self.new.log assumptions.now budget
+            reply) }
         ensures refuted { IfOk result (IsJust self.old.log.main assumptions.now) }
         ensures enough { 3 ^ self.old.log.vars ≤ budget → IfOk result IsDecided }
 
@@ -130,7 +138,7 @@ impl<P: Propagator + Drop> Solver<P> {
     }
 }
 
-// Attaches the main clauses.
+/// Attaches the main clauses.
 fn attach_all<P: Propagator>(
     log: &Derivations,
     trail: &Trail,
@@ -141,7 +149,8 @@ fn attach_all<P: Propagator>(
     requires vars { log.now.vars ≡ P.vars propagator.old }
     requires trail { trail.now ≡ record { vars = P.vars propagator.old; level = 0; entries = [] } }
     requires steps { log.now.steps ≡ [] }
-    ensures attached { OnOk result (map (λ (a : Attached). a.clause) (P.attached propagator.new) ≡ log.now.main) }
+    ensures attached { OnOk result (map (λ (a : Attached). a.clause) (P.attached propagator.new) ≡
+        log.now.main) }
     ensures stand { OnOk result (StandIn (known_of log.now) (P.attached propagator.new)) }
     ensures followed { P.followed propagator.new ≡ [] }
     ensures vars { P.vars propagator.new ≡ P.vars propagator.old }

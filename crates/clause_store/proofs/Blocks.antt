@@ -4,7 +4,7 @@ use Rattle.std.specs.Prelude.{nat_le, if◌then◌else◌}
 use Rattle.std.proofs.lemmas.Bool.Decides.{leb_tells, nat_tests}
 use Rattle.clause_store.specs.declared.lit.Lit.{Lit}
 use Rattle.clause_store.specs.Lits.{AreInRange}
-use Rattle.clause_store.specs.Truth.{AreTrue, all_true, Agree}
+use Rattle.clause_store.specs.Truth.{AreTrue, Agree}
 use Rattle.clause_store.specs.Extends.{Extends, Always, AreDefined}
 use Rattle.clause_store.proofs.Truths.{all_agree, agree_then, both_true, true_both}
 

@@ -77,10 +77,6 @@ pub within_more : (v w : ℕ) (ls : List Lit) → v ≤ w → InRange v ls → I
 within_more v w [] le h = tt
 within_more v w (l ∷ ls) le h = ((h.0.0, omega arith), within_more v w ls le h.1)
 
-pub all_within_more : (v w : ℕ) (cs : List (List Lit)) → v ≤ w → AreInRange v cs → AreInRange w cs
-all_within_more v w [] le h = tt
-all_within_more v w (c ∷ cs) le h = (within_more v w c le h.0, all_within_more v w cs le h.1)
-
 -- lists of clauses
 
 pub all_true-append : (a : ℕ → Bool) (cs ds : List (List Lit)) → all_true a (cs ++ ds) ≡ (all_true a cs && all_true a ds)
@@ -103,11 +99,6 @@ pub known_true : (a : ℕ → Bool) (cs : List (List Lit)) (k : ℕ) (c : List L
 known_true a [] k c s g = absurd (cc)
 known_true a (d ∷ ds) zero c s g = let e : d ≡ c = cc in subst (λ (x : List Lit). clause_true a x ≡ true) e (and_left (clause_true a d) (all_true a ds) s)
 known_true a (d ∷ ds) (suc k) c s g = known_true a ds k c (and_right (clause_true a d) (all_true a ds) s) g
-
--- the same, as a fact of each clause
-pub satisfies_each : (a : ℕ → Bool) (cs : List (List Lit)) → AreTrue cs a → AllByRecursion (λ c. clause_true a c ≡ true) cs
-satisfies_each a [] s = tt
-satisfies_each a (c ∷ cs) s = (and_left (clause_true a c) (all_true a cs) s, satisfies_each a cs (and_right (clause_true a c) (all_true a cs) s))
 
 pub each_satisfies : (a : ℕ → Bool) (cs : List (List Lit)) → AllByRecursion (λ c. clause_true a c ≡ true) cs → AreTrue cs a
 each_satisfies a [] h = refl

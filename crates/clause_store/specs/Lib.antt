@@ -4,5 +4,6 @@ pub mod LitOrder
 pub mod Fresh
 pub mod Clauses
 pub mod Truth
+pub mod Refutes
 pub mod Extends
 pub mod Grew

@@ -1,7 +1,7 @@
 // An assignment: a truth value for each variable.
-ghost use Rattle.std.specs.Prelude.{◌≡◌, ◌-◌, ◌≤◌, ◌^◌, IfOk, false, length, replicate, slice_set};
+ghost use Rattle.std.specs.Prelude.{◌≡◌, ◌-◌, ◌≤◌, IfOk, false, length, replicate, slice_set};
 ghost use Rattle.clause_store.specs.Lits.{InRange};
-ghost use Rattle.clause_store.specs.Truth.{all_true, clause_true, lit_true, values_of};
+ghost use Rattle.clause_store.specs.Truth.{all_true, clause_true, values_of};
 
 use crate::clause_list::ClauseList;
 use crate::lit::Lit;
@@ -65,7 +65,7 @@ impl Assignment {
         true
     }
 
-    // Whether one of the literals is true.
+    /// Whether one of the literals is true.
     fn has_true(&self, lits: &[Lit]) -> bool
         requires { InRange (length self.now) lits.now }
         ensures { result ≡ clause_true (values_of self.now) lits.now }

@@ -1,5 +1,6 @@
 // A list of clauses in one flat list of literals.
-ghost use Rattle.std.specs.Prelude.{◌≡◌, ◌+◌, ◌*◌, ◌^◌, ◌<◌, ◌≤◌, [], ◌∷◌, ◌++◌, length, slice_get, Some, true, IfOk, OnOk, OnErr};
+ghost use Rattle.std.specs.Prelude.{◌≡◌, ◌+◌, ◌^◌, ◌<◌, ◌≤◌, [], ◌∷◌, ◌++◌, length, slice_get};
+ghost use Rattle.std.specs.Prelude.{Some, IfOk, OnOk, OnErr};
 ghost use Rattle.clause_store.specs.Lits.{Ascends, InRange, positive_lit, sorted_clause};
 ghost use Rattle.clause_store.specs.Clauses.{cut, Rise, start_at};
 ghost use Rattle.clause_store.specs.Fresh.{fresh_lits, fresh_vars};
@@ -11,8 +12,8 @@ use edge::NoMemory;
 use std::alloc::Global;
 use std::marker::Model;
 
-/// A list of clauses over the variables from 1 to a number. It grows at its end alone. Equal clauses may
-/// stand in it twice.
+/// A list of clauses over the variables from 1 to a number. It grows at its end alone. Equal
+/// clauses may stand in it twice.
 #[derive(Drop)]
 pub struct ClauseList {
     lits: Vec<Lit>,
@@ -21,7 +22,7 @@ pub struct ClauseList {
 }
 
 impl Model for ClauseList {
-    ghost use Rattle.std.specs.Prelude.{◌≡◌, ◌<◌, ◌≤◌, ◌^◌, length, vec_len};
+    ghost use Rattle.std.specs.Prelude.{◌≡◌, ◌<◌, ◌≤◌, ◌^◌, length};
     ghost use Rattle.clause_store.specs.Clauses.{Clauses, cut, Rise, IsWhole};
     ghost use Rattle.clause_store.specs.Limits.{var_limit};
 
@@ -29,7 +30,9 @@ impl Model for ClauseList {
 
     ghost view = { λ a. record { list = cut 0 a.ends.items a.lits.items; vars = a.vars } };
 
-    ghost invariant = { λ a. Rise 0 a.ends.items (length a.lits.items) × (length a.lits.items < 2 ^ 32) × (a.vars ≤ var_limit) × IsWhole (record { list = cut 0 a.ends.items a.lits.items; vars = a.vars }) };
+    ghost invariant = { λ a. Rise 0 a.ends.items (length a.lits.items) ×
+        (length a.lits.items < 2 ^ 32) × (a.vars ≤ var_limit) × IsWhole
+        (record { list = cut 0 a.ends.items a.lits.items; vars = a.vars }) };
 }
 
 impl ClauseList {
@@ -73,8 +76,8 @@ impl ClauseList {
         Lit::positive(self.vars)
     }
 
-    /// So many further variables, the next ones in order. `NoMemory`, for want of memory, leaves the list as it
-    /// was.
+    /// So many further variables, the next ones in order. `NoMemory`, for want of memory, leaves
+    /// the list as it was.
     #[tactic(auto, using(crate::proofs::Fresh::fresh_vars_next))]
     pub fn fresh_vars(&mut self, count: usize) -> Result<Vec<u32>, NoMemory>
         requires { self.old.vars + count ≤ var_limit }
@@ -91,8 +94,8 @@ impl ClauseList {
         Ok(vars)
     }
 
-    /// The positive literals of so many further variables, the next ones in order. `NoMemory`, for want of
-    /// memory, leaves the clauses as they were, and maybe more variables.
+    /// The positive literals of so many further variables, the next ones in order. `NoMemory`, for
+    /// want of memory, leaves the clauses as they were, and maybe more variables.
     pub fn fresh_lits(&mut self, count: usize) -> Result<Vec<Lit>, NoMemory>
         requires { self.old.vars + count ≤ var_limit }
         ensures lits { IfOk result (λ lits. lits.items ≡ fresh_lits self.old.vars count) }
@@ -118,13 +121,14 @@ impl ClauseList {
         part(&self.lits, &self.ends, k as usize)
     }
 
-    /// Appends the clause of these literals and answers its number. `NoMemory` also comes where the list would
-    /// hold 2^32 literals.
+    /// Appends the clause of these literals and answers its number. `NoMemory` also comes where the
+    /// list would hold 2^32 literals.
     pub fn add(&mut self, lits: &[Lit]) -> Result<u64, NoMemory>
         requires in_range { InRange self.old.vars lits.now }
         ensures number { IfOk result (λ k. k ≡ length self.old.list) }
         ensures small { IfOk result (λ k. k < clause_limit) }
-        ensures ok { OnOk result (self.new ≡ record self.old { list = self.old.list ++ sorted_clause lits.now ∷ [] }) }
+        ensures ok { OnOk result
+            (self.new ≡ record self.old { list = self.old.list ++ sorted_clause lits.now ∷ [] }) }
         ensures err { OnErr result (self.new ≡ self.old) }
     {
         let clause = Clause::from_lits(*self.lits.allocator(), lits)?;
@@ -132,25 +136,28 @@ impl ClauseList {
         Ok(number)
     }
 
-    /// Appends a clause and answers its number. `NoMemory` also comes where the list would hold 2^32 literals.
+    /// Appends a clause and answers its number. `NoMemory` also comes where the list would hold
+    /// 2^32 literals.
     pub fn add_clause(&mut self, clause: &Clause) -> Result<u64, NoMemory>
         requires in_range { InRange self.old.vars clause.now }
         ensures number { IfOk result (λ k. k ≡ length self.old.list) }
         ensures small { IfOk result (λ k. k < clause_limit) }
-        ensures ok { OnOk result (self.new ≡ record self.old { list = self.old.list ++ clause.now ∷ [] }) }
+        ensures ok { OnOk result
+            (self.new ≡ record self.old { list = self.old.list ++ clause.now ∷ [] }) }
         ensures err { OnErr result (self.new ≡ self.old) }
     {
         let number = self.add_sorted(clause.lits())?;
         Ok(number)
     }
 
-    // The place of the end is reserved first, so that nothing can fail once the literals stand.
+    /// The place of the end is reserved first, so that nothing can fail once the literals stand.
     fn add_sorted(&mut self, lits: &[Lit]) -> Result<u64, NoMemory>
         requires ascends { Ascends lits.now }
         requires in_range { InRange self.old.vars lits.now }
         ensures number { IfOk result (λ k. k ≡ length self.old.list) }
         ensures small { IfOk result (λ k. k < clause_limit) }
-        ensures ok { OnOk result (self.new ≡ record self.old { list = self.old.list ++ lits.now ∷ [] }) }
+        ensures ok { OnOk result
+            (self.new ≡ record self.old { list = self.old.list ++ lits.now ∷ [] }) }
         ensures err { OnErr result (self.new ≡ self.old) }
     {
         let number = self.ends.len() as u64;
@@ -167,7 +174,7 @@ impl ClauseList {
     }
 }
 
-// The literals of a clause.
+/// The literals of a clause.
 fn part<'a>(lits: &'a [Lit], ends: &[u32], k: usize) -> &'a [Lit]
     requires rise { Rise 0 ends.now (length lits.now) }
     requires within { k < length ends.now }
@@ -178,7 +185,7 @@ fn part<'a>(lits: &'a [Lit], ends: &[u32], k: usize) -> &'a [Lit]
     &lits[from..to]
 }
 
-// Where the clause begins.
+/// Where the clause begins.
 fn start(ends: &[u32], k: usize) -> u32
     requires { k < length ends.now }
     ensures { result ≡ start_at 0 ends.now k }

@@ -9,7 +9,7 @@ fn lit(number: i32) -> Lit {
     }
 }
 
-// The clause of these numbers; a negative number is a negative literal.
+/// The clause of these numbers; a negative number is a negative literal.
 fn clause(alloc: Global, numbers: &[i32]) -> Result<Clause, Fail> {
     let mut lits = Vec::new(alloc);
     for number in numbers {

@@ -1,4 +1,5 @@
-//! Clauses that define a formula: each of its nodes gets a variable of its own, after Tseitin (1968).
+//! Clauses that define a formula: each of its nodes gets a variable of its own, after Tseitin
+//! (1968).
 #![tactic(auto)]
 
 mod nodes;

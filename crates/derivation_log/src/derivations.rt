@@ -1,6 +1,6 @@
 // A main list of clauses, and the steps that follow it.
-ghost use Rattle.std.specs.Prelude.{◌≡◌, ◌+◌, ◌<◌, ◌≤◌, ◌-◌, map, [], ◌∷◌, ◌++◌, length, slice_get, Some, IfOk, OnOk, OnErr, ◌^◌};
-ghost use Rattle.clause_store.specs.Clauses.{Clauses};
+ghost use Rattle.std.specs.Prelude.{◌≡◌, ◌+◌, ◌<◌, ◌≤◌, ◌-◌, map, [], ◌∷◌, ◌++◌, length, slice_get};
+ghost use Rattle.std.specs.Prelude.{Some, IfOk, OnOk, OnErr};
 ghost use Rattle.clause_store.specs.Lits.{InRange};
 ghost use Rattle.clause_store.specs.Limits.{clause_limit};
 ghost use Rattle.derivation_log.specs.Logs.{Log, known_of, IsSound};
@@ -12,7 +12,7 @@ use edge::NoMemory;
 use std::alloc::Global;
 use std::marker::Model;
 
-// What the log keeps of a step beside its clause, which stands in the list of known clauses.
+/// What the log keeps of a step beside its clause, which stands in the list of known clauses.
 #[derive(Drop)]
 struct Row {
     kind: StepKind,
@@ -20,8 +20,8 @@ struct Row {
     chain: Chain,
 }
 
-/// A log: a main list of clauses and a list of steps, which grows at its end alone. The clauses of both stand in
-/// one list.
+/// A log: a main list of clauses and a list of steps, which grows at its end alone. The clauses of
+/// both stand in one list.
 #[derive(Drop)]
 pub struct Derivations {
     known: ClauseList,
@@ -36,7 +36,13 @@ impl Model for Derivations {
 
     ghost Value = { Log };
 
-    ghost view = { λ d. record { main = take d.main d.known.list; vars = d.known.vars; steps = steps_of (drop d.main d.known.list) d.rows.items } };
+    ghost view = { λ d.
+        record {
+          main = take d.main d.known.list;
+          vars = d.known.vars;
+          steps = steps_of
+              (drop d.main d.known.list) d.rows.items;
+        } };
 
     ghost invariant = { λ d. length d.known.list ≡ d.main + length d.rows.items };
 }
@@ -68,12 +74,14 @@ impl Derivations {
         self.main
     }
 
-    /// Appends a step and answers its number. `NoMemory` for want of memory: nothing is appended then.
+    /// Appends a step and answers its number. `NoMemory` for want of memory: nothing is appended
+    /// then.
     pub fn append(&mut self, step: Step) -> Result<u64, NoMemory>
         requires { InRange self.old.vars step.clause }
         ensures number { IfOk result (λ k. k ≡ length (known_of self.old)) }
         ensures small { IfOk result (λ k. k < clause_limit) }
-        ensures ok { OnOk result (self.new ≡ record self.old { steps = self.old.steps ++ step ∷ [] }) }
+        ensures ok { OnOk result
+            (self.new ≡ record self.old { steps = self.old.steps ++ step ∷ [] }) }
         ensures err { OnErr result (self.new ≡ self.old) }
     {
         self.rows.reserve(1)?;
@@ -90,16 +98,19 @@ impl Derivations {
     pub fn kind(&self, number: u64) -> StepKind
         requires main { length self.now.main ≤ number }
         requires known { number < length (known_of self.now) }
-        ensures { slice_get (map (λ s. s.kind) self.now.steps) (number - length self.now.main) ≡ Some result }
+        ensures { slice_get (map (λ s. s.kind) self.now.steps) (number - length self.now.main) ≡
+            Some result }
     {
         self.rows[(number - self.main) as usize].kind
     }
 
-    /// The step of a number, copied; `NoMemory` for want of memory. Where the steps follow, `write_step` takes it.
+    /// The step of a number, copied; `NoMemory` for want of memory. Where the steps follow,
+    /// `write_step` takes it.
     pub fn step(&self, alloc: Global, number: u64) -> Result<Step, NoMemory>
         requires main { length self.now.main ≤ number }
         requires known { number < length (known_of self.now) }
-        ensures step { IfOk result (λ step. slice_get self.now.steps (number - length self.now.main) ≡ Some step) }
+        ensures step { IfOk result (λ step. slice_get self.now.steps
+            (number - length self.now.main) ≡ Some step) }
         ensures line { IsSound self.now.main self.now.steps → IfOk result (HasLine number) }
     {
         let _ = (self.known.len(), self.known.vars());

@@ -1,9 +1,11 @@
 // Reading a step line.
-ghost use Rattle.std.specs.Prelude.{◌≡◌, ◌<◌, ◌^◌, ℕ, List, Bool, Some, None, Err, true, false, ◌||◌, IsTrue, IfOk, MatchOption, codes, map, if◌then◌else◌};
+ghost use Rattle.std.specs.Prelude.{◌≡◌, ◌<◌, ◌^◌, Some, None, false, IfOk, MatchOption, map};
+ghost use Rattle.std.specs.Prelude.{if◌then◌else◌};
 ghost use Rattle.report_words.specs.Words.{words_of};
-ghost use Rattle.clause_store.specs.Lits.{Ascends};
-ghost use Rattle.derivation_log.specs.StepLines.{StepLine, seen, any_big, any_big_pivot, is_before, rises, widen, widen_link, IsReading};
-ghost use Rattle.derivation_log.specs.StepReading.{Takes, number_then, word_then, kind_at, kind_then, lits_then, links_at, step_at};
+ghost use Rattle.derivation_log.specs.StepLines.{seen, any_big, any_big_pivot, is_before, rises};
+ghost use Rattle.derivation_log.specs.StepLines.{widen, widen_link, IsReading};
+ghost use Rattle.derivation_log.specs.StepReading.{Takes, number_then, word_then, kind_at};
+ghost use Rattle.derivation_log.specs.StepReading.{kind_then, lits_then, links_at, step_at};
 ghost use Rattle.derivation_log.specs.declared.reading.StepReadStop.TheVariants.{NoMemory as OutOfMemory};
 
 use crate::step::{Chain, Link, Step, StepKind};
@@ -18,7 +20,8 @@ use std::alloc::{AllocError, AllocFailed, Global};
 pub enum StepReadStop {
     /// The line is no step line.
     Form,
-    /// It is a step line in which a literal of the clause or of a link has a number above 4,294,967,295.
+    /// It is a step line in which a literal of the clause or of a link has a number above
+    /// 4,294,967,295.
     TooBig,
     /// It is a step line without such a literal whose clause literals are not sorted and distinct.
     Unsorted,
@@ -34,8 +37,8 @@ impl From<NoMemory> for StepReadStop {
     }
 }
 
-/// The number and the step that a line spells. The refusals come in the order of `StepReadStop`, each exactly
-/// where it applies and none before it.
+/// The number and the step that a line spells. The refusals come in the order of `StepReadStop`,
+/// each exactly where it applies and none before it.
 pub fn read_step(alloc: Global, line: &[u8]) -> Result<(u64, Step), StepReadStop>
     ensures { IsReading line.now result }
 {
@@ -62,7 +65,8 @@ pub fn read_step(alloc: Global, line: &[u8]) -> Result<(u64, Step), StepReadStop
 
 #[tactic(auto, unfolding(crate::specs::StepReading::step_at))]
 fn wide_step(alloc: Global, line: &[u8]) -> Result<Option<WideStep>, NoMemory>
-    ensures { IfOk result (λ found. MatchOption found (step_at (words_of line.now) ≡ None) (λ s. step_at (words_of line.now) ≡ Some (seen s))) }
+    ensures { IfOk result (λ found. MatchOption found (step_at (words_of line.now) ≡ None)
+        (λ s. step_at (words_of line.now) ≡ Some (seen s))) }
 {
     let mut words = Words::new(line);
     if !word_next(&mut words, b"step") {
@@ -99,7 +103,7 @@ fn number_next(words: &mut Words<'_>) -> Option<u64>
     number_of(words.next()?)
 }
 
-// Whether the next word is this one.
+/// Whether the next word is this one.
 #[tactic(auto, unfolding(crate::specs::StepReading::word_then))]
 fn word_next(words: &mut Words<'_>, word: &[u8]) -> bool
     ensures { word_then word.now words.old ≡ (if result then Some words.new else None) }
@@ -129,7 +133,7 @@ fn kind_next(words: &mut Words<'_>) -> Option<StepKind>
     kind_of(words.next()?)
 }
 
-// The literals before a word `0`.
+/// The literals before a word `0`.
 #[tactic(auto, unfolding(crate::specs::StepReading::lits_then))]
 fn lits_next(alloc: Global, words: &mut Words<'_>) -> Result<Option<Vec<WideLit>>, NoMemory>
     ensures { IfOk result (λ found. Takes (λ v. v.items) found words.new (lits_then words.old)) }
@@ -149,10 +153,11 @@ fn lits_next(alloc: Global, words: &mut Words<'_>) -> Result<Option<Vec<WideLit>
     }
 }
 
-// The links up to the end of the line.
+/// The links up to the end of the line.
 #[tactic(auto, unfolding(crate::specs::StepReading::links_at))]
 fn links_next(alloc: Global, words: &mut Words<'_>) -> Result<Option<Vec<WideLink>>, NoMemory>
-    ensures { IfOk result (λ found. MatchOption found (links_at words.old ≡ None) (λ v. links_at words.old ≡ Some v.items)) }
+    ensures { IfOk result (λ found. MatchOption found (links_at words.old ≡ None)
+        (λ v. links_at words.old ≡ Some v.items)) }
 {
     let mut links = Vec::new(alloc);
     while let Some(word) = words.next() {

@@ -4,7 +4,8 @@ ghost use Rattle.std.specs.Prelude.{◌≡◌};
 use clause_store::{Clause, Lit};
 use std::marker::Model;
 
-/// A resolution of the running clause with the clause of a number, on a literal of the running clause.
+/// A resolution of the running clause with the clause of a number, on a literal of the running
+/// clause.
 #[derive(Clone, Copy, Debug, Default, PartialEq, Eq)]
 pub struct Link {
     /// The literal of the running clause; its negation is in the other one.
@@ -61,8 +62,8 @@ pub enum StepKind {
     Claimed,
 }
 
-/// A step: from the clause of number `first` the links lead to `clause`. Main clauses are numbered from 0, and
-/// steps go on from there.
+/// A step: from the clause of number `first` the links lead to `clause`. Main clauses are numbered
+/// from 0, and steps go on from there.
 #[derive(Drop)]
 pub struct Step {
     /// Learned or claimed.

@@ -1,9 +1,10 @@
 // Writing a step line.
-ghost use Rattle.std.specs.Prelude.{◌≡◌, ◌++◌, ◌∷◌, ◌<◌, ◌^◌, [], OnOk, OnErr, codes, decimal};
+ghost use Rattle.std.specs.Prelude.{◌≡◌, ◌++◌, ◌∷◌, OnOk, OnErr, codes, decimal};
 ghost use Rattle.std.specs.List.{flat_map, AllByRecursion};
 ghost use Rattle.report_words.specs.Numbers.{HasNumeral, literal_word};
 ghost use Rattle.report_words.specs.Words.{line_of, later_text};
-ghost use Rattle.derivation_log.specs.StepLines.{step_line, step_words, link_words, kind_word, widen, widen_link};
+ghost use Rattle.derivation_log.specs.StepLines.{step_line, step_words, link_words, kind_word};
+ghost use Rattle.derivation_log.specs.StepLines.{widen, widen_link};
 
 use crate::step::{Link, Step, StepKind};
 use clause_store::Lit;
@@ -15,7 +16,8 @@ pub fn write_step(number: u64, step: &Step, into: &mut Vec<u8>) -> Result<(), No
     requires number { HasNumeral number }
     requires first { HasNumeral step.now.first }
     requires links { AllByRecursion (λ link. HasNumeral link.number) step.now.chain }
-    ensures ok { OnOk result (into.new.items ≡ into.old.items ++ line_of (step_words (step_line number step.now)) ++ codes "\n") }
+    ensures ok { OnOk result (into.new.items ≡ into.old.items ++ line_of
+        (step_words (step_line number step.now)) ++ codes "\n") }
     ensures err { OnErr result (into.new.items ≡ into.old.items) }
 {
     let mut text = Vec::new(*into.allocator());
@@ -25,7 +27,8 @@ pub fn write_step(number: u64, step: &Step, into: &mut Vec<u8>) -> Result<(), No
 }
 
 fn put_step(text: &mut Vec<u8>, number: u64, step: &Step) -> Result<(), NoMemory>
-    ensures { OnOk result (text.new.items ≡ text.old.items ++ line_of (step_words (step_line number step.now)) ++ codes "\n") }
+    ensures { OnOk result (text.new.items ≡ text.old.items ++ line_of
+        (step_words (step_line number step.now)) ++ codes "\n") }
 {
     text.extend_from_slice(b"step")?;
     put_number(text, number)?;
@@ -73,7 +76,8 @@ fn put_literal(text: &mut Vec<u8>, lit: Lit) -> Result<(), NoMemory>
 }
 
 fn put_literals(text: &mut Vec<u8>, lits: &[Lit]) -> Result<(), NoMemory>
-    ensures { OnOk result (text.new.items ≡ text.old.items ++ flat_map (λ l. 32 ∷ literal_word (widen l)) lits.now) }
+    ensures { OnOk result (text.new.items ≡ text.old.items ++ flat_map
+        (λ l. 32 ∷ literal_word (widen l)) lits.now) }
 {
     for lit in lits {
         put_literal(text, *lit)?;
@@ -82,14 +86,16 @@ fn put_literals(text: &mut Vec<u8>, lits: &[Lit]) -> Result<(), NoMemory>
 }
 
 fn put_link(text: &mut Vec<u8>, link: Link) -> Result<(), NoMemory>
-    ensures { OnOk result (text.new.items ≡ text.old.items ++ later_text (link_words (widen_link link))) }
+    ensures { OnOk result (text.new.items ≡ text.old.items ++ later_text
+        (link_words (widen_link link))) }
 {
     put_literal(text, link.pivot)?;
     put_number(text, link.number)
 }
 
 fn put_links(text: &mut Vec<u8>, links: &[Link]) -> Result<(), NoMemory>
-    ensures { OnOk result (text.new.items ≡ text.old.items ++ flat_map (λ l. later_text (link_words (widen_link l))) links.now) }
+    ensures { OnOk result (text.new.items ≡ text.old.items ++ flat_map
+        (λ l. later_text (link_words (widen_link l))) links.now) }
 {
     for link in links {
         put_link(text, *link)?;

@@ -33,7 +33,8 @@ impl Maker<Formula> for Formulas {
     }
 }
 
-/// Makes the formula's depth, counted up to one past the limit, and so never a formula that is too deep to drop.
+/// Makes the formula's depth, counted up to one past the limit, and so never a formula that is too
+/// deep to drop.
 #[derive(Drop)]
 pub struct Depths;
 

@@ -47,7 +47,8 @@ impl From<OutOfMemory> for FormulaStop {
 pub fn read_tokens(alloc: Global, tokens: &[Token], atoms: &Atoms) -> Result<Formula, FormulaStop>
     ensures read { IfOk result (IsRead (names_of atoms.now) (map lexeme_of tokens.now)) }
     ensures width { IfOk result (λ formula. width_of formula ≤ length atoms.now) }
-    ensures nodes { IfOk result (λ formula. nodes_of formula ≡ count_by is_node (map lexeme_of tokens.now)) }
+    ensures nodes { IfOk result
+        (λ formula. nodes_of formula ≡ count_by is_node (map lexeme_of tokens.now)) }
     ensures stop { IfErr result (IsStop (names_of atoms.now) (map lexeme_of tokens.now)) }
 {
     let symbols = symbols(alloc, tokens, atoms)?;

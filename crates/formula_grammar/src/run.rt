@@ -8,12 +8,15 @@ use crate::symbol::Symbol;
 use edge::NoMemory;
 use std::alloc::Global;
 
+/// What comes of a symbol where an operand is due; `NoMemory` for want of it.
 fn on_operand<V: Drop, M: Maker<V>>(
     maker: &M,
     symbol: Symbol,
     stack: &mut Vec<Frame<V>>,
 ) -> Result<Turn<V>, NoMemory>
-    ensures { IfOk result (λ turn. state_of turn (reverse stack.new.items) ≡ step M.made symbol (operand (reverse stack.old.items))) }
+    ensures { IfOk result
+        (λ turn. state_of turn (reverse stack.new.items)
+        ≡ step M.made symbol (operand (reverse stack.old.items))) }
 {
     let part = match symbol {
         Symbol::Bang => {
@@ -32,12 +35,15 @@ fn on_operand<V: Drop, M: Maker<V>>(
     Ok(Turn::Operator(maker.make(part)?))
 }
 
+/// What comes of a closing bracket after an operand; `NoMemory` for want of it.
 fn on_close<V: Drop, M: Maker<V>>(
     maker: &M,
     value: V,
     stack: &mut Vec<Frame<V>>,
 ) -> Result<Turn<V>, NoMemory>
-    ensures { IfOk result (λ turn. state_of turn (reverse stack.new.items) ≡ step M.made Symbol.Close (operator value (reverse stack.old.items))) }
+    ensures { IfOk result
+        (λ turn. state_of turn (reverse stack.new.items)
+        ≡ step M.made Symbol.Close (operator value (reverse stack.old.items))) }
 {
     let value = strip(maker, Bind::Loose, value, stack)?;
     match stack.pop() {
@@ -46,13 +52,16 @@ fn on_close<V: Drop, M: Maker<V>>(
     }
 }
 
+/// What comes of a symbol after an operand; `NoMemory` for want of it.
 fn on_operator<V: Drop, M: Maker<V>>(
     maker: &M,
     symbol: Symbol,
     value: V,
     stack: &mut Vec<Frame<V>>,
 ) -> Result<Turn<V>, NoMemory>
-    ensures { IfOk result (λ turn. state_of turn (reverse stack.new.items) ≡ step M.made symbol (operator value (reverse stack.old.items))) }
+    ensures { IfOk result
+        (λ turn. state_of turn (reverse stack.new.items)
+        ≡ step M.made symbol (operator value (reverse stack.old.items))) }
 {
     match symbol {
         Symbol::Ampersand => {

@@ -4,6 +4,7 @@ ghost use Rattle.formula_grammar.specs.Machine.{closes, combined, strip};
 use crate::stack::{Bind, Frame, Maker, Part};
 use edge::NoMemory;
 
+/// Whether an operator that binds so applies the frame before it.
 fn closes<V>(bind: Bind, frame: &Frame<V>) -> bool
     ensures { result ≡ closes bind frame.now }
 {
@@ -21,6 +22,7 @@ fn closes<V>(bind: Bind, frame: &Frame<V>) -> bool
     }
 }
 
+/// What the frame makes of its right side; `NoMemory` for want of it.
 fn combine<V: Drop, M: Maker<V>>(maker: &M, frame: Frame<V>, right: V) -> Result<V, NoMemory>
     ensures { IfOk result (λ value. value ≡ combined M.made frame right) }
 {
@@ -36,8 +38,12 @@ fn combine<V: Drop, M: Maker<V>>(maker: &M, frame: Frame<V>, right: V) -> Result
 
 /// Takes the top frame if the next mark closes it.
 fn pop_closed<V: Drop>(stack: &mut Vec<Frame<V>>, bind: Bind) -> Option<Frame<V>>
-    ensures popped { IfSome result (λ x. (stack.old.items ≡ stack.new.items ++ x ∷ []) × (closes bind x ≡ true)) }
-    ensures kept { IfNone result ((stack.new.items ≡ stack.old.items) × ((made : _) (f : _) → strip made bind f (reverse stack.old.items) ≡ (f, reverse stack.old.items))) }
+    ensures popped { IfSome result
+        (λ x. (stack.old.items ≡ stack.new.items ++ x ∷ []) × (closes bind x ≡ true)) }
+    ensures kept { IfNone result
+        ((stack.new.items ≡ stack.old.items)
+        × ((made : _) (f : _) → strip made bind f (reverse stack.old.items)
+        ≡ (f, reverse stack.old.items))) }
 {
     match stack.last() {
         None => None,
@@ -56,7 +62,8 @@ pub fn strip<V: Drop, M: Maker<V>>(
     right: V,
     stack: &mut Vec<Frame<V>>,
 ) -> Result<V, NoMemory>
-    ensures { IfOk result (λ f. (f, reverse stack.new.items) ≡ strip M.made bind right (reverse stack.old.items)) }
+    ensures { IfOk result
+        (λ f. (f, reverse stack.new.items) ≡ strip M.made bind right (reverse stack.old.items)) }
 {
     let mut value = right;
     while let Some(frame) = pop_closed(stack, bind) {

@@ -2,7 +2,8 @@ ghost use Rattle.std.specs.Prelude.{◌≡◌, ◌<◌, ◌≤◌, ◌+◌, IfOk
 ghost use Rattle.std.specs.List.{list_any};
 ghost use Rattle.formulas.specs.Names.{names_of};
 ghost use Rattle.line_tokens.specs.Lexemes.{lexeme_of};
-ghost use Rattle.formula_grammar.specs.Symbols.{word_symbol, symbol_of, symbols_of, is_past, is_node, number_in, opened, most_open};
+ghost use Rattle.formula_grammar.specs.Symbols.{word_symbol, symbol_of, symbols_of, is_past};
+ghost use Rattle.formula_grammar.specs.Symbols.{is_node, number_in, opened, most_open};
 
 use crate::symbol::Symbol;
 use edge::NoMemory;
@@ -17,6 +18,7 @@ fn number_in(name: &str, atoms: &Atoms) -> u32
     atoms.number_of(name).unwrap_or(atoms.len())
 }
 
+/// The symbol of a word.
 fn word_symbol(word: &str, atoms: &Atoms) -> Symbol
     ensures { result ≡ word_symbol (names_of atoms.now) word.now }
 {
@@ -31,6 +33,7 @@ fn word_symbol(word: &str, atoms: &Atoms) -> Symbol
     }
 }
 
+/// The symbol of a token.
 fn symbol_of(token: Token, atoms: &Atoms) -> Symbol
     ensures { result ≡ symbol_of (names_of atoms.now) (lexeme_of token.entry) }
 {
@@ -49,7 +52,8 @@ fn symbol_of(token: Token, atoms: &Atoms) -> Symbol
 
 /// The symbols of tokens, over the names of the atoms; `NoMemory` for want of memory.
 pub fn symbols(alloc: Global, tokens: &[Token], atoms: &Atoms) -> Result<Vec<Symbol>, NoMemory>
-    ensures { IfOk result (λ symbols. symbols.items ≡ symbols_of (names_of atoms.now) (map lexeme_of tokens.now)) }
+    ensures { IfOk result
+        (λ symbols. symbols.items ≡ symbols_of (names_of atoms.now) (map lexeme_of tokens.now)) }
 {
     let mut symbols = Vec::with_capacity(alloc, tokens.len())?;
     for token in tokens {

@@ -1,41 +1,29 @@
--- Texts that are written piece by piece.
-use Rattle.std.proofs.Common.{◌≡◌, ℕ, List, [], ◌++◌, sym, ap, ◌∙◌, append_assoc, append-nil}
-use Rattle.std.specs.Prelude.{Result, Ok, Err, OnErr, codes}
-use Rattle.formula_text.specs.CanonicalText.{GrowsWithin, joined_text}
+-- Parts of two texts that are joined.
+use Rattle.std.proofs.Common.{◌≡◌, ℕ, List, ◌++◌, ap, ◌∙◌, append_assoc}
+use Rattle.std.specs.Prelude.{codes}
+use Rattle.report_words.specs.Writing.{GrowsWithin}
+use Rattle.report_words.proofs.Growth.{part_of_first, part_of_rest}
+use Rattle.formula_text.specs.CanonicalText.{joined_text}
 
--- a part of the first piece is written
-pub grows_first : (old new first rest : List ℕ) → GrowsWithin old new first → GrowsWithin old new (first ++ rest)
-grows_first old new first rest g = (g.0, g.1 ++ rest, g.2, ap (λ t. t ++ rest) g.3 ∙ append_assoc g.0 g.1 rest)
+-- a part of the bracket, of the connective and of the right text
+pub part_of_open : (old new left mark right : List ℕ) → GrowsWithin old new (codes "(") → GrowsWithin old new (joined_text left mark right)
+part_of_open old new left mark right g =
+    part_of_first old new (codes "(" ++ left ++ mark ++ right) (codes ")")
+    (part_of_first old new (codes "(" ++ left ++ mark) right
+    (part_of_first old new (codes "(" ++ left) mark
+    (part_of_first old new (codes "(") left g)))
 
--- the first piece is written, and a part of the rest
-pub grows_then : (old mid new first rest : List ℕ) → mid ≡ old ++ first → GrowsWithin mid new rest → GrowsWithin old new (first ++ rest)
-grows_then old mid new first rest is g = (
-  first ++ g.0,
-  g.1,
-  g.2 ∙ ap (λ t. t ++ g.0) is ∙ append_assoc old first g.0,
-  ap (λ t. first ++ t) g.3 ∙ sym (append_assoc first g.0 g.1),
-)
+pub part_of_mark : (old opened between new left mark right : List ℕ) → opened ≡ old ++ codes "(" → between ≡ opened ++ left → GrowsWithin between new mark → GrowsWithin old new (joined_text left mark right)
+part_of_mark old opened between new left mark right is e g =
+    let written : between ≡ old ++ (codes "(" ++ left) = e ∙ ap (λ t. t ++ left) is ∙ append_assoc old (codes "(") left in
+    part_of_first old new (codes "(" ++ left ++ mark ++ right) (codes ")")
+    (part_of_first old new (codes "(" ++ left ++ mark) right
+    (part_of_rest old between new (codes "(" ++ left) mark written g))
 
--- a fact that holds anyway holds of an error
-pub on_err : {T E P : Type 0} (r : Result T E) → P → OnErr r P
-on_err (Ok x) p = tt
-on_err (Err e) p = p
-
--- the three places inside two joined texts
-pub grows_left : (old opened new left mark right : List ℕ) → opened ≡ old ++ codes "(" → GrowsWithin opened new left → GrowsWithin old new (joined_text left mark right)
-grows_left old opened new left mark right is g =
-    grows_first old new (codes "(" ++ left ++ mark ++ right) (codes ")")
-    (grows_first old new (codes "(" ++ left ++ mark) right
-    (grows_first old new (codes "(" ++ left) mark
-    (grows_then old opened new (codes "(") left is g)))
-
-pub grows_mark : (old opened new left mark right : List ℕ) → opened ≡ old ++ codes "(" → new ≡ opened ++ left → GrowsWithin old new (joined_text left mark right)
-grows_mark old opened new left mark right is e =
-    grows_left old opened new left mark right is (left, [], e, sym (append-nil left))
-
-pub grows_right : (old opened between new left mark right : List ℕ) → opened ≡ old ++ codes "(" → between ≡ opened ++ left → GrowsWithin (between ++ mark) new right → GrowsWithin old new (joined_text left mark right)
-grows_right old opened between new left mark right is e g =
-    let written : between ++ mark ≡ old ++ (codes "(" ++ left ++ mark) =
-    ap (λ t. t ++ mark) (e ∙ ap (λ t. t ++ left) is ∙ append_assoc old (codes "(") left) ∙ append_assoc old (codes "(" ++ left) mark in
-    grows_first old new (codes "(" ++ left ++ mark ++ right) (codes ")")
-    (grows_then old (between ++ mark) new (codes "(" ++ left ++ mark) right written g)
+pub part_of_right : (old opened between marked new left mark right : List ℕ) → opened ≡ old ++ codes "(" → between ≡ opened ++ left → marked ≡ between ++ mark → GrowsWithin marked new right →
+    GrowsWithin old new (joined_text left mark right)
+part_of_right old opened between marked new left mark right is e f g =
+    let written : marked ≡ old ++ (codes "(" ++ left ++ mark) =
+    f ∙ ap (λ t. t ++ mark) (e ∙ ap (λ t. t ++ left) is ∙ append_assoc old (codes "(") left) ∙ append_assoc old (codes "(" ++ left) mark in
+    part_of_first old new (codes "(" ++ left ++ mark ++ right) (codes ")")
+    (part_of_rest old marked new (codes "(" ++ left ++ mark) right written g)

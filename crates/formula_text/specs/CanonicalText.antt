@@ -1,5 +1,5 @@
 -- The canonical text of a formula.
-use Rattle.std.specs.Prelude.{◌≡◌, ℕ, List, [], ◌++◌, slice_get, unwrap_or, codes}
+use Rattle.std.specs.Prelude.{ℕ, List, [], ◌++◌, slice_get, unwrap_or, codes}
 use Rattle.formulas.specs.declared.formula.Formula.{Formula}
 use Rattle.formulas.specs.declared.formula.Formula.TheOpen.{Formula-F}
 use Rattle.formulas.specs.declared.formula.Formula.TheFolds.{fold-Formula}
@@ -26,7 +26,3 @@ text_step names (Formula-F.Iff s t) = joined_text s (codes " <-> ") t
 -- the canonical text of a formula over atoms of these names
 abbrev pub formula_text : List (List ℕ) → Formula → List ℕ
 formula_text names f = fold-Formula (List ℕ) (text_step names) f
-
--- old has grown to new by a part of the text from its start
-abbrev pub GrowsWithin : List ℕ → List ℕ → List ℕ → Type 0
-GrowsWithin old new text = (part rest : List ℕ) × (new ≡ old ++ part) × (text ≡ part ++ rest)

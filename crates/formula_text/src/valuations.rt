@@ -32,7 +32,8 @@ fn write_truth(value: bool, into: &mut Vec<u8>) -> Result<(), NoMemory>
 /// Appends the words of valuations, each behind a blank; on `NoMemory` what was appended is a part
 /// of them from its start.
 pub fn write_valuations(valuations: &[Valuation], into: &mut Vec<u8>) -> Result<(), NoMemory>
-    ensures { Writes result into.old.items into.new.items (later_text (map valuation_word valuations.now)) }
+    ensures { Writes result into.old.items into.new.items
+        (later_text (map valuation_word valuations.now)) }
 {
     for valuation in valuations {
         write_bytes(b" ", into)?;

@@ -1,4 +1,4 @@
-ghost use Rattle.std.specs.Prelude.{◌≡◌, ◌+◌, ◌<◌, ◌≤◌, ◌^◌, IfOk, length};
+ghost use Rattle.std.specs.Prelude.{◌≡◌, ◌<◌, ◌≤◌, ◌^◌, IfOk, length};
 ghost use Rattle.formulas.specs.Formulas.{nodes_of, depth_of, holds, width_of};
 ghost use Rattle.formulas.specs.declared.formula.Formula.TheVariants.{Not, And, Or, Implies, Iff};
 

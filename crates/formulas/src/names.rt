@@ -1,8 +1,10 @@
-ghost use Rattle.std.specs.Prelude.{◌≡◌, ◌<◌, ◌≤◌, [], ◌∷◌, ◌++◌, true, false, Some, length, position, slice_get, IfNone, IfOk, OnOk, OnErr};
+ghost use Rattle.std.specs.Prelude.{◌≡◌, ◌<◌, ◌≤◌, [], ◌∷◌, ◌++◌, true, false, Some, length};
+ghost use Rattle.std.specs.Prelude.{position, slice_get, IfNone, IfOk, OnOk, OnErr};
 ghost use Rattle.std.specs.Str.{bytes_eq};
 ghost use Rattle.std.specs.List.{list_all, list_any};
 ghost use Rattle.formulas.specs.Limits.{atom_limit};
-ghost use Rattle.formulas.specs.Names.{are_names, is_name, is_plain_name, is_reserved, is_word_byte, names_of};
+ghost use Rattle.formulas.specs.Names.{are_names, is_name, is_plain_name, is_reserved};
+ghost use Rattle.formulas.specs.Names.{is_word_byte, names_of};
 
 use crate::limits::NAME_LIMIT;
 use edge::NoMemory;
@@ -27,7 +29,8 @@ impl Model for Atoms {
 
     ghost view = { λ a. map string_bytes a.names.keys };
 
-    ghost invariant = { λ a. (length a.names.keys ≤ atom_limit) × (are_names (map string_bytes a.names.keys) ≡ true) };
+    ghost invariant = { λ a. (length a.names.keys ≤ atom_limit)
+        × (are_names (map string_bytes a.names.keys) ≡ true) };
 }
 
 impl Atoms {

@@ -1,4 +1,5 @@
-ghost use Rattle.std.specs.Prelude.{◌≡◌, ℕ, ◌+◌, ◌-◌, ◌<◌, ◌≤◌, ◌^◌, length, slice_set, MatchOption, replicate, true, IsTrue, ◌↔◌};
+ghost use Rattle.std.specs.Prelude.{◌≡◌, ◌+◌, ◌<◌, ◌≤◌, ◌^◌, length, slice_set};
+ghost use Rattle.std.specs.Prelude.{MatchOption, replicate, true, IsTrue, ◌↔◌};
 ghost use Rattle.formulas.specs.Limits.{valuation_limit};
 ghost use Rattle.formulas.specs.Words.{truth_at, word_of, IsNext, IsBefore};
 
@@ -32,7 +33,10 @@ impl Model for Valuation {
 
     ghost inverse = { λ v. record { bits = number_of v; atoms = length v } };
 
-    ghost inverse_ok = { λ a h. ap (λ k. record { bits = k; atoms = length (word_of a.atoms a.bits) }) (number_of_word a.atoms a.bits h.1) ∙ ap (λ k. record { bits = a.bits; atoms = k }) (word_size a.atoms a.bits) };
+    ghost inverse_ok = { λ a h.
+        ap (λ k. record { bits = k; atoms = length (word_of a.atoms a.bits) })
+        (number_of_word a.atoms a.bits h.1)
+        ∙ ap (λ k. record { bits = a.bits; atoms = k }) (word_size a.atoms a.bits) };
 }
 
 impl Valuation {
@@ -68,7 +72,8 @@ impl Valuation {
 
     /// The next valuation in rising order, or `None` where every atom is true.
     pub fn next_after(self) -> Option<Valuation>
-        ensures { MatchOption result (self ≡ replicate (length self) true) (λ next. IsNext self next) }
+        ensures { MatchOption result (self ≡ replicate (length self) true)
+            (λ next. IsNext self next) }
     {
         let Valuation { bits, atoms } = self;
         match bits_after(bits, atoms) {
@@ -120,7 +125,8 @@ fn bits_with(bits: u64, atoms: u32, atom: u32, value: bool) -> u64
 fn bits_after(bits: u64, atoms: u32) -> Option<u64>
     requires few { atoms ≤ valuation_limit }
     requires fits { bits < 2 ^ atoms }
-    ensures { MatchOption result (2 ^ atoms ≤ bits + 1) (λ next. (next ≡ bits + 1) × (next < 2 ^ atoms)) }
+    ensures { MatchOption result (2 ^ atoms ≤ bits + 1)
+        (λ next. (next ≡ bits + 1) × (next < 2 ^ atoms)) }
 {
     let next = bits.checked_add(1)?;
     if atoms < u64::BITS && next >> atoms != 0 {

@@ -1,4 +1,5 @@
-ghost use Rattle.std.specs.Prelude.{◌≡◌, ◌<◌, ◌≤◌, ◌↔◌, length, map, take, drop, true, false, IfOk, IfSome, IsNone, MatchOption, IsTrue, slice_index};
+ghost use Rattle.std.specs.Prelude.{◌≡◌, ◌<◌, ◌↔◌, length, map, take, drop, false, IfOk};
+ghost use Rattle.std.specs.Prelude.{IfSome, IsNone, MatchOption, IsTrue, slice_index};
 ghost use Rattle.std.specs.List.{list_any, prefix_len};
 ghost use Rattle.formulas.specs.Names.{is_word_byte};
 ghost use Rattle.line_tokens.specs.Bytes.{is_blank, is_bad};
@@ -10,6 +11,7 @@ use edge::NoMemory;
 use formulas::is_word_byte;
 use std::alloc::Global;
 
+/// Whether a byte is a space, a tab or a carriage return.
 fn is_blank(byte: u8) -> bool
     ensures { result ≡ is_blank byte }
 {
@@ -40,7 +42,8 @@ fn mark_at(text: &[u8]) -> Option<(Token<'static>, usize)>
     requires some { 0 < length text.now }
     requires no_word { is_word_byte (slice_index text.now 0) ≡ false }
     requires no_blank { is_blank (slice_index text.now 0) ≡ false }
-    ensures { MatchOption result (IsTrue (list_any is_bad text.now)) (λ mark. BeginsWith text.now (lexeme_of mark.0) mark.1) }
+    ensures { MatchOption result (IsTrue (list_any is_bad text.now))
+        (λ mark. BeginsWith text.now (lexeme_of mark.0) mark.1) }
 {
     match text[0] {
         b'!' => Some((Token::Bang, 1)),
@@ -59,7 +62,8 @@ fn mark_at(text: &[u8]) -> Option<(Token<'static>, usize)>
 /// The tokens of a text, or `None` where a byte of it is bad; `NoMemory` for want of memory.
 pub fn tokens(alloc: Global, text: &[u8]) -> Result<Option<Vec<Token>>, NoMemory>
     ensures bad { IfOk result (λ found. IsNone found ↔ IsTrue (list_any is_bad text.now)) }
-    ensures cut { IfOk result (λ found. IfSome found (λ tokens. map lexeme_of tokens.items ≡ lexemes_of text.now)) }
+    ensures cut { IfOk result
+        (λ found. IfSome found (λ tokens. map lexeme_of tokens.items ≡ lexemes_of text.now)) }
 {
     let mut found = Vec::new(alloc);
     let mut rest = text;

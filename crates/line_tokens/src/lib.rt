@@ -1,4 +1,4 @@
-// The tokens of a line of text: marks, and words that borrow the text.
+//! The tokens of a line of text: marks, and words that borrow the text.
 #![tactic(auto)]
 
 mod cut;

@@ -7,7 +7,7 @@ use Rattle.derivation_log.specs.declared.step.Step.{Step}
 use Rattle.derivation_log.specs.Logs.{Follows, IsSound, clauses_of}
 use Rattle.log_checker.specs.declared.checking.StepStop.{StepStop}
 use Rattle.log_checker.specs.declared.checking.StepStop.TheVariants.{NoMemory}
-use Rattle.log_checker.specs.Refutes.{Refutes}
+use Rattle.clause_store.specs.Refutes.{Refutes}
 use Rattle.log_checker.specs.Verdicts.{IsAnswer}
 
 abbrev pub AnswerLaw : Type 0

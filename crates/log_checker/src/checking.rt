@@ -1,7 +1,6 @@
 // Whether a step follows from the clauses before it.
-ghost use Rattle.std.specs.Prelude.{◌≡◌, ◌≢◌, ◌<◌, length, IsTrue, ◌↔◌, IfOk, IfErr, OnOk, MatchResult, None, Some};
+ghost use Rattle.std.specs.Prelude.{◌≡◌, ◌≢◌, ◌<◌, length, IsTrue, ◌↔◌, MatchResult, None, Some};
 ghost use Rattle.std.specs.List.{AllByRecursion};
-ghost use Rattle.derivation_log.specs.Logs.{Follows};
 ghost use Rattle.log_checker.specs.Verdicts.{IsAnswer, IsEnd, are_below, chain_from, verdict_of};
 ghost use Rattle.clause_store.specs.Clauses.{clause_at};
 ghost use Rattle.log_checker.specs.declared.checking.StepStop.TheVariants.{NoMemory as OutOfMemory};
@@ -16,8 +15,8 @@ use std::alloc::Global;
 pub enum StepStop {
     /// A number in the step is not below the step's own.
     NoSuchClause,
-    /// At this link, counted from 0, the literal is not in the running clause, or its negation is not in the
-    /// named one.
+    /// At this link, counted from 0, the literal is not in the running clause, or its negation is
+    /// not in the named one.
     NoPivot(u64),
     /// The chain ends in another clause than is written.
     OtherClause,
@@ -33,11 +32,12 @@ impl From<NoMemory> for StepStop {
     }
 }
 
-/// Whether the step follows from the known clauses, its number being the number of these. Each refusal comes
-/// exactly where it applies and none before it in the order of `StepStop`.
+/// Whether the step follows from the known clauses, its number being the number of these. Each
+/// refusal comes exactly where it applies and none before it in the order of `StepStop`.
 pub fn check_step(alloc: Global, known: &ClauseList, step: &Step) -> Result<(), StepStop>
     ensures answer { IsAnswer known.now.list step.now result }
-    ensures verdict { MatchResult result (λ _. verdict_of known.now.list step.now ≡ None) (λ stop. stop ≢ OutOfMemory → verdict_of known.now.list step.now ≡ Some stop) }
+    ensures verdict { MatchResult result (λ _. verdict_of known.now.list step.now ≡ None)
+        (λ stop. stop ≢ OutOfMemory → verdict_of known.now.list step.now ≡ Some stop) }
 {
     if !are_numbers_below(step, known.len()) {
         return Err(StepStop::NoSuchClause);
@@ -55,7 +55,7 @@ fn are_same(left: &[Lit], right: &[Lit]) -> bool
     left == right
 }
 
-// Whether each number in the step is below this one.
+/// Whether each number in the step is below this one.
 fn are_numbers_below(step: &Step, number: u64) -> bool
     ensures { result ≡ are_below number step.now }
 {
@@ -70,7 +70,8 @@ fn are_numbers_below(step: &Step, number: u64) -> bool
     true
 }
 
-// The clause that the links lead to. Two clauses change places in turn, so that short ones take no memory.
+/// The clause that the links lead to. Two clauses change places in turn, so that short ones take no
+/// memory.
 fn end_of_chain(
     alloc: Global,
     known: &ClauseList,
@@ -79,7 +80,8 @@ fn end_of_chain(
 ) -> Result<Clause, StepStop>
     requires first { first < length known.now.list }
     requires links { AllByRecursion (λ link. link.number < length known.now.list) links.now }
-    ensures { IsEnd (chain_from known.now.list 0 (clause_at known.now.list first) links.now) result }
+    ensures { IsEnd (chain_from known.now.list 0 (clause_at known.now.list first) links.now)
+        result }
 {
     let mut running = Clause::from_sorted(alloc, known.clause(first))?;
     let mut room = Clause::empty(alloc);

@@ -1,6 +1,6 @@
 // Whether a clause refutes assumptions.
-ghost use Rattle.std.specs.Prelude.{◌≡◌, ◌↔◌, IsTrue};
-ghost use Rattle.log_checker.specs.Refutes.{Refutes};
+ghost use Rattle.std.specs.Prelude.{◌↔◌, IsTrue};
+ghost use Rattle.clause_store.specs.Refutes.{Refutes};
 
 use clause_store::{Lit, has_lit};
 

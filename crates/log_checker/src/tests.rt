@@ -1,29 +1,11 @@
 ghost use Rattle.std.specs.Prelude.{◌≡◌, OnOk, IfOk};
-ghost use Rattle.clause_store.specs.Lits.{InRange, negative_lit, positive_lit};
+ghost use Rattle.clause_store.specs.Lits.{InRange};
 
 use crate::{StepStop, check_step, refutes};
 use clause_store::{Clause, ClauseList, Lit};
 use derivation_log::{Chain, Link, Step, StepKind};
 use std::alloc::Global;
 use std::test::Fail;
-
-fn yes(var: u32) -> Lit
-    ensures { result ≡ positive_lit var }
-{
-    Lit {
-        var,
-        positive: true,
-    }
-}
-
-fn no(var: u32) -> Lit
-    ensures { result ≡ negative_lit var }
-{
-    Lit {
-        var,
-        positive: false,
-    }
-}
 
 fn put(list: &mut ClauseList, lits: &[Lit]) -> Result<(), Fail>
     requires eight { list.old.vars ≡ 8 }
@@ -43,35 +25,47 @@ fn eight_variables(alloc: Global) -> ClauseList
     list
 }
 
-// The clauses 0 to 7.
+/// The clauses 0 to 7.
 fn constraint_and_ask(alloc: Global) -> Result<ClauseList, Fail>
     ensures { IfOk result (λ list. list.vars ≡ 8) }
 {
     let mut list = eight_variables(alloc);
-    put(&mut list, &[yes(1), no(2)])?;
-    put(&mut list, &[no(1), yes(2)])?;
-    put(&mut list, &[no(2), no(3)])?;
-    put(&mut list, &[yes(2), yes(3)])?;
-    put(&mut list, &[yes(1), no(4)])?;
-    put(&mut list, &[no(1), yes(4)])?;
-    put(&mut list, &[no(4), no(5)])?;
-    put(&mut list, &[yes(4), yes(5)])?;
+    put(&mut list, &[Lit::positive(1), Lit::negative(2)])?;
+    put(&mut list, &[Lit::negative(1), Lit::positive(2)])?;
+    put(&mut list, &[Lit::negative(2), Lit::negative(3)])?;
+    put(&mut list, &[Lit::positive(2), Lit::positive(3)])?;
+    put(&mut list, &[Lit::positive(1), Lit::negative(4)])?;
+    put(&mut list, &[Lit::negative(1), Lit::positive(4)])?;
+    put(&mut list, &[Lit::negative(4), Lit::negative(5)])?;
+    put(&mut list, &[Lit::positive(4), Lit::positive(5)])?;
     Ok(list)
 }
 
-// The clauses 0 to 13.
+/// The clauses 0 to 13.
 fn main_list(alloc: Global) -> Result<ClauseList, Fail> {
     let mut list = constraint_and_ask(alloc)?;
-    put(&mut list, &[yes(6), no(7)])?;
-    put(&mut list, &[no(6), yes(7)])?;
-    put(&mut list, &[yes(1), yes(6), no(8)])?;
-    put(&mut list, &[no(1), no(6), no(8)])?;
-    put(&mut list, &[no(1), yes(6), yes(8)])?;
-    put(&mut list, &[yes(1), no(6), yes(8)])?;
+    put(&mut list, &[Lit::positive(6), Lit::negative(7)])?;
+    put(&mut list, &[Lit::negative(6), Lit::positive(7)])?;
+    put(
+        &mut list,
+        &[Lit::positive(1), Lit::positive(6), Lit::negative(8)],
+    )?;
+    put(
+        &mut list,
+        &[Lit::negative(1), Lit::negative(6), Lit::negative(8)],
+    )?;
+    put(
+        &mut list,
+        &[Lit::negative(1), Lit::positive(6), Lit::positive(8)],
+    )?;
+    put(
+        &mut list,
+        &[Lit::positive(1), Lit::negative(6), Lit::positive(8)],
+    )?;
     Ok(list)
 }
 
-// The answer for a step from clause 13 by one link.
+/// The answer for a step from clause 13 by one link.
 fn answer(
     alloc: Global,
     clause: &[Lit],
@@ -93,22 +87,27 @@ fn answer(
 #[test]
 fn a_step_is_judged(rt: HostRuntime) -> Result<(), Fail> {
     let alloc = rt.alloc();
-    let whole = [yes(1), no(7), yes(8)];
-    assert_eq!(rt; answer(alloc, &whole, no(6), 8)?, None);
+    let whole = [Lit::positive(1), Lit::negative(7), Lit::positive(8)];
+    assert_eq!(rt; answer(alloc, &whole, Lit::negative(6), 8)?, None);
     assert_eq!(rt;
-        answer(alloc, &whole, no(6), 14)?,
+        answer(alloc, &whole, Lit::negative(6), 14)?,
         Some(StepStop::NoSuchClause)
     );
     assert_eq!(rt;
-        answer(alloc, &whole, yes(6), 8)?,
+        answer(alloc, &whole, Lit::positive(6), 8)?,
         Some(StepStop::NoPivot(0))
     );
     assert_eq!(rt;
-        answer(alloc, &whole, no(6), 9)?,
+        answer(alloc, &whole, Lit::negative(6), 9)?,
         Some(StepStop::NoPivot(0))
     );
     assert_eq!(rt;
-        answer(alloc, &[yes(1), yes(8)], no(6), 8)?,
+        answer(
+            alloc,
+            &[Lit::positive(1), Lit::positive(8)],
+            Lit::negative(6),
+            8
+        )?,
         Some(StepStop::OtherClause)
     );
     Ok(())
@@ -116,7 +115,14 @@ fn a_step_is_judged(rt: HostRuntime) -> Result<(), Fail> {
 
 #[test]
 fn a_clause_refutes_what_it_negates(rt: HostRuntime) {
-    let assumptions = [no(1), yes(7), no(8)];
-    assert!(rt; refutes(&[yes(1), no(7), yes(8)], &assumptions));
-    assert!(rt; refutes(&[], &assumptions) && !refutes(&[yes(1), yes(3)], &assumptions));
+    let assumptions = [Lit::negative(1), Lit::positive(7), Lit::negative(8)];
+    assert!(rt;
+        refutes(
+            &[Lit::positive(1), Lit::negative(7), Lit::positive(8)],
+            &assumptions
+        )
+    );
+    assert!(rt;
+        refutes(&[], &assumptions) && !refutes(&[Lit::positive(1), Lit::positive(3)], &assumptions)
+    );
 }

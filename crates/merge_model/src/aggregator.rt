@@ -15,15 +15,16 @@ use std::cmp::Ordering;
 /// Its meaning is `rank`, a list for each list of numbers, with one length for lists of one length.
 /// A list is no worse than another of its length where its rank is lexicographically at most the
 /// other's. The laws, below the methods, speak of lists that are not empty and whose entries are at
-/// most `distance_limit`. `unordered`: a permutation keeps the rank. `monotone`: a list whose entries are
-/// each at most another's is no worse. `zero_least`: only the list of zeros is no worse than the list
-/// of zeros. `joined`: where two lists are each no worse than two others, they are so when joined.
+/// most `distance_limit`. `unordered`: a permutation keeps the rank. `monotone`: a list whose
+/// entries are each at most another's is no worse. `zero_least`: only the list of zeros is no worse
+/// than the list of zeros. `joined`: where two lists are each no worse than two others, they are so
+/// when joined.
 pub trait Aggregator {
     /// The rank of a list of distances.
     ghost rank: { Self → List ℕ → List ℕ };
 
-    /// The lexicographic order of the ranks of two lists of one length, which have 1 to `entry_limit`
-    /// entries of at most `distance_limit`. It takes no memory.
+    /// The lexicographic order of the ranks of two lists of one length, which have 1 to
+    /// `entry_limit` entries of at most `distance_limit`. It takes no memory.
     fn compare(&self, left: &[u32], right: &[u32]) -> Ordering
         requires sized { length left.now ≡ length right.now }
         requires some { 1 ≤ length left.now }
@@ -59,7 +60,8 @@ pub trait Aggregator {
     /// Where both parts are no worse, the joined list is no worse.
     ghost joined: { (a : Self) (u w s t : List ℕ) →
         All (λ k. k ≤ distance_limit) (u ++ w ++ s ++ t) → u ≢ [] → s ≢ [] →
-        length u ≡ length w → length s ≡ length t → IsNoWorse (rank a) u w → IsNoWorse (rank a) s t →
+        length u ≡ length w → length s ≡ length t →
+        IsNoWorse (rank a) u w → IsNoWorse (rank a) s t →
         IsNoWorse (rank a) (u ++ s) (w ++ t) };
 }
 

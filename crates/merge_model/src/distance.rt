@@ -60,7 +60,8 @@ pub struct Hamming;
 impl Distance for Drastic {
     ghost use Rattle.std.proofs.Common.{arith};
     ghost use Rattle.merge_model.specs.Distances.{drastic};
-    ghost use Rattle.merge_model.specs.DistanceLaws.{drastic_comm, drastic_self, drastic_apart, drastic_within};
+    ghost use Rattle.merge_model.specs.DistanceLaws.{drastic_comm, drastic_self, drastic_apart};
+    ghost use Rattle.merge_model.specs.DistanceLaws.{drastic_within};
 
     ghost dist = { λ _ v w. drastic v w };
 
@@ -90,7 +91,8 @@ impl Distance for Drastic {
 impl Distance for Hamming {
     ghost use Rattle.std.proofs.Common.{arith};
     ghost use Rattle.merge_model.specs.Distances.{hamming};
-    ghost use Rattle.merge_model.specs.DistanceLaws.{hamming_comm, hamming_self, hamming_apart, hamming_within};
+    ghost use Rattle.merge_model.specs.DistanceLaws.{hamming_comm, hamming_self, hamming_apart};
+    ghost use Rattle.merge_model.specs.DistanceLaws.{hamming_within};
 
     ghost dist = { λ _ v w. hamming v w };
 

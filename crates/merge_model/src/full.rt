@@ -8,7 +8,8 @@ use std::alloc::Global;
 /// Each entry as often as its agent counts, in order; `NoMemory` for want of it.
 pub fn full_vector(alloc: Global, vector: &[u32], agents: &[Agent]) -> Result<Vec<u32>, NoMemory>
     requires { length vector.now ≡ length agents.now }
-    ensures { IfOk result (λ full. full.items ≡ repeated (map (λ agent. agent.times) agents.now) vector.now) }
+    ensures { IfOk result
+        (λ full. full.items ≡ repeated (map (λ agent. agent.times) agents.now) vector.now) }
 {
     let mut full = Vec::new(alloc);
     for (i, agent) in agents.iter().enumerate() {

@@ -35,9 +35,11 @@ pub fn merge_plainly<D: Distance, A: Aggregator>(
     problem: &Problem,
 ) -> Result<Answer, NoMemory>
     requires { length problem.now.atoms ≤ 8 }
-    ensures answer { IfOk result (λ answer. IsRight (D.dist distance.now) (A.rank aggregator.now) problem.now answer
+    ensures answer { IfOk result
+        (λ answer. IsRight (D.dist distance.now) (A.rank aggregator.now) problem.now answer
         ⊎ IsNamed problem.now answer) }
-    ensures inconsistent { IfOk result (λ answer. IsNamed problem.now answer ↔ LacksModel (profile_of problem.now)) }
+    ensures inconsistent { IfOk result
+        (λ answer. IsNamed problem.now answer ↔ LacksModel (profile_of problem.now)) }
 {
     let atoms = problem.atoms.len();
     let candidates = models(alloc, &problem.constraint, atoms)?;
@@ -60,9 +62,12 @@ pub fn merge_named(
     problem: &Problem,
 ) -> Result<Answer, NoMemory>
     requires { length problem.now.atoms ≤ 8 }
-    ensures answer { IfOk result (λ answer. IsRight (dist_named distance problem.now.atoms) (rank_named aggregator) problem.now answer
+    ensures answer { IfOk result
+        (λ answer. IsRight (dist_named distance problem.now.atoms)
+        (rank_named aggregator) problem.now answer
         ⊎ IsNamed problem.now answer) }
-    ensures inconsistent { IfOk result (λ answer. IsNamed problem.now answer ↔ LacksModel (profile_of problem.now)) }
+    ensures inconsistent { IfOk result
+        (λ answer. IsNamed problem.now answer ↔ LacksModel (profile_of problem.now)) }
 {
     match (distance, aggregator) {
         (DistanceName::Drastic, AggregatorName::Sum) => merge_plainly(

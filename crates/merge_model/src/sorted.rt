@@ -13,7 +13,8 @@ impl Aggregator for Leximax {
     ghost use Rattle.ranks.specs.Limits.{distance_limit};
     ghost use Rattle.ranks.specs.Ranks.{leximax_rank};
     ghost use Rattle.ranks.proofs.Orders.{length_down};
-    ghost use Rattle.ranks.proofs.Laws.{leximax_unordered, leximax_monotone, leximax_zero, leximax_joined};
+    ghost use Rattle.ranks.proofs.Laws.{leximax_unordered, leximax_monotone, leximax_zero};
+    ghost use Rattle.ranks.proofs.Laws.{leximax_joined};
 
     ghost rank = { λ _ u. leximax_rank u };
 
@@ -23,9 +24,11 @@ impl Aggregator for Leximax {
 
     ghost monotone = { λ _ u w small _ h. leximax_monotone distance_limit u w small h };
 
-    ghost zero_least = { λ _ u small _ h. leximax_zero distance_limit u (Prim.omega arith) small h };
+    ghost zero_least = { λ _ u small _ h.
+        leximax_zero distance_limit u (Prim.omega arith) small h };
 
-    ghost joined = { λ _ u w s t small _ _ e f h i. leximax_joined distance_limit u w s t small e f h i };
+    ghost joined = { λ _ u w s t small _ _ e f h i.
+        leximax_joined distance_limit u w s t small e f h i };
 
     fn compare(&self, left: &[u32], right: &[u32]) -> Ordering {
         compare_sorted_down(left, right)
@@ -43,5 +46,6 @@ impl StrictAggregator for Leximax {
     ghost use Rattle.ranks.specs.Limits.{distance_limit};
     ghost use Rattle.ranks.proofs.Laws.{leximax_strict};
 
-    ghost strict = { λ _ u w s t small _ _ e f h i j. leximax_strict distance_limit u w s t small e f h i j };
+    ghost strict = { λ _ u w s t small _ _ e f h i j.
+        leximax_strict distance_limit u w s t small e f h i j };
 }

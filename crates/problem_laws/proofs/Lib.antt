@@ -1,6 +1,12 @@
+pub mod CanonicalText
 pub mod EachText
+pub mod EndLaws
 pub mod Kept
+pub mod LineBytes
 pub mod LineChoice
+pub mod LineForms
 pub mod LineLaws
-pub mod TextLaws
 pub mod NextLaws
+pub mod Ordered
+pub mod TextLaws
+pub mod Written

@@ -1,13 +1,12 @@
 -- After the same lines a line has one least fault at most, and none where it adds something.
-use Rattle.std.proofs.Common.{◌≡◌, ◌≤◌, ℕ, Bool, true, false, ◌⊎◌, List, if◌then◌else◌, refl, ap, sym, subst, ◌∙◌, inl, inr, arith}
+use Rattle.std.proofs.Common.{◌≡◌, ℕ, Bool, true, false, ◌⊎◌, List, if◌then◌else◌, refl, ap, sym, subst, ◌∙◌, inl, inr}
 use Rattle.std.specs.List.{list_any}
-use Rattle.formulas.specs.Formulas.{depth_of}
 use Rattle.formulas.specs.declared.formula.Formula.{Formula}
 use Rattle.formula_grammar.proofs.Choice.{not_deep}
 use Rattle.line_tokens.specs.Bytes.{is_bad}
 use Rattle.line_tokens.specs.Lexemes.{Lexeme}
 use Rattle.formula_grammar.specs.Readings.{IsSpelled, IsRead, IsTooDeep}
-use Rattle.formula_grammar.specs.Symbols.{is_unknown, most_open}
+use Rattle.formula_grammar.specs.Symbols.{is_unknown}
 use Rattle.formula_grammar.proofs.Complete.{one_formula}
 use Rattle.problem_lines.specs.Lines.{content_of}
 use Rattle.problem_lines.specs.Forms.{Form, blank, declaration, condition, belief, query, unknown}

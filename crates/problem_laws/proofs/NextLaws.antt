@@ -3,7 +3,8 @@ use Rattle.std.proofs.Common.{◌≡◌, ℕ, List, [], ◌∷◌, ◌++◌, ref
 use Rattle.problem_reading.specs.declared.stop.TextKind.{TextKind}
 use Rattle.problem_reading.specs.Drafts.{Draft}
 use Rattle.problem_reading.specs.Faults.{IsLineFault}
-use Rattle.problem_reading.specs.Lines.{AreFaultless, IsNextFault}
+use Rattle.problem_reading.specs.Lines.{AreFaultless, IsCanonicalNext, IsNextFault}
+use Rattle.problem_reading.specs.Saying.{after}
 use Rattle.problem_reading.specs.Spelling.{Declares, one_more}
 use Rattle.problem_reading.proofs.OneDraft.{declares_once, last_adds}
 use Rattle.problem_laws.specs.HasOutcome.{HasOutcome}
@@ -25,3 +26,7 @@ of_choice lines next d declares (inr h) = inr (h.0, (d, declares, h.1))
 
 pub has_outcome : (lines : List (List ℕ)) (next : List ℕ) → AreFaultless lines → HasOutcome lines next
 has_outcome lines next all = of_choice lines next all.0 all.1 (line_choice all.0 next)
+
+pub not_canonical : (lines : List (List ℕ)) (next : List ℕ) (k : TextKind) → IsNextFault lines next k → IsCanonicalNext lines next → ⊥
+not_canonical lines next k fault h =
+    never_joins lines next k fault (after h.0 h.1, one_more next (after h.0 h.1) h.2 (h.1, h.3, refl))

@@ -1,17 +1,19 @@
 -- A text declares one thing at most, and has one first fault at most.
 use Rattle.std.proofs.Common.{◌≡◌, ◌+◌, ℕ, ◌⊎◌, List, [], ◌∷◌, ◌++◌, length, append_assoc, refl, ap, sym, subst, ◌∙◌, inl, inr}
 use Rattle.merge_model.specs.declared.problem.Problem.{Problem}
+use Rattle.problem_lines.specs.Lines.{lines_of}
 use Rattle.problem_reading.specs.declared.stop.TextFault.{TextFault}
 use Rattle.problem_reading.specs.declared.stop.TextKind.{TextKind}
 use Rattle.problem_reading.specs.Drafts.{Draft}
 use Rattle.problem_reading.specs.Faults.{IsLineFault}
 use Rattle.problem_reading.specs.Saying.{Adds}
-use Rattle.problem_reading.specs.Spelling.{Declares, no_lines, one_more, IsProblemOf, IsEndFault, IsFirstLineFault, FirstFault, Spelled}
+use Rattle.problem_reading.specs.Spelling.{Declares, no_lines, one_more, IsFirstLineFault, FirstFault, Spelled}
 use Rattle.problem_laws.specs.Sameness.{SameFault, SameProblem}
 use Rattle.problem_reading.proofs.OneDraft.{Line, heads, end_parts, declares_once}
+use Rattle.problem_laws.proofs.EndLaws.{same_problem, same_end, spelled_or_ended}
 use Rattle.problem_laws.proofs.LineLaws.{one_fault, never_both}
 
-last_of : (a : Line) (xs : List Line) → (ys : List Line) × (y : Line) × (a ∷ xs ≡ ys ++ y ∷ [])
+pub last_of : (a : Line) (xs : List Line) → (ys : List Line) × (y : Line) × (a ∷ xs ≡ ys ++ y ∷ [])
 last_of a [] = ([], a, refl)
 last_of a (b ∷ xs) = let rest = last_of b xs in (a ∷ rest.0, rest.1, ap (λ zs. a ∷ zs) rest.2)
 
@@ -63,34 +65,15 @@ at_places bytes f g h i (inl same) =
 at_places bytes f g h i (inr (inl p)) = absurd (no_fault_among i.declares h.before p.0 h.line h.draft f.kind p.1 h.declares h.least)
 at_places bytes f g h i (inr (inr p)) = absurd (no_fault_among h.declares i.before p.0 i.line i.draft g.kind p.1 i.declares i.least)
 
-end_once : (d : Draft) (f g : TextFault) → IsEndFault d f → IsEndFault d g → SameFault f g
-end_once d f g (at, inl h) (there, inl i) = (at ∙ sym there, h.0 ∙ sym i.0)
-end_once d f g (at, inl h) (there, inr i) = absurd (i.1 h.1)
-end_once d f g (at, inr h) (there, inl i) = absurd (h.1 i.1)
-end_once d f g (at, inr h) (there, inr i) = (at ∙ sym there, h.0 ∙ sym i.0)
-
 pub one_first_fault : (bytes : List ℕ) (f g : TextFault) → FirstFault bytes f → FirstFault bytes g → SameFault f g
 one_first_fault bytes f g (inl h) (inl i) = at_places bytes f g h i (places h.before i.before h.line i.line h.after i.after (sym h.lines ∙ i.lines))
 one_first_fault bytes f g (inl h) (inr i) = absurd (no_fault_among i.1 h.before h.after h.line h.draft f.kind h.lines h.declares h.least)
 one_first_fault bytes f g (inr h) (inl i) = absurd (no_fault_among h.1 i.before i.after i.line i.draft g.kind i.lines i.declares i.least)
-one_first_fault bytes f g (inr h) (inr i) =
-    end_once i.0 f g (subst (λ (x : Draft). IsEndFault x f) (declares_once h.1 i.1 refl) h.2) i.2
-
-same_problem : (d : Draft) (p q : Problem) → IsProblemOf d p → IsProblemOf d q → SameProblem p q
-same_problem d p q h i = record {
-  atoms = h.atoms ∙ sym i.atoms;
-  constraint = h.constraint ∙ sym i.constraint;
-  agents = h.agents ∙ sym i.agents;
-  asks = h.asks ∙ sym i.asks;
-}
+one_first_fault bytes f g (inr h) (inr i) = same_end (lines_of bytes) f g h i
 
 pub one_problem : (bytes : List ℕ) (p q : Problem) → Spelled bytes p → Spelled bytes q → SameProblem p q
-one_problem bytes p q h i = same_problem i.0 p q (subst (λ (d : Draft). IsProblemOf d p) (declares_once h.1 i.1 refl) h.2) i.2
-
-not_at_end : (d : Draft) (p : Problem) (f : TextFault) → IsProblemOf d p → IsEndFault d f → ⊥
-not_at_end d p f is (at, inl h) = is.some_atom h.1
-not_at_end d p f is (at, inr h) = is.some_agent h.2
+one_problem bytes p q h i = same_problem (lines_of bytes) p q h i
 
 pub spelled_or_faulty : (bytes : List ℕ) (p : Problem) (f : TextFault) → Spelled bytes p → FirstFault bytes f → ⊥
 spelled_or_faulty bytes p f h (inl i) = no_fault_among h.1 i.before i.after i.line i.draft f.kind i.lines i.declares i.least
-spelled_or_faulty bytes p f h (inr i) = not_at_end i.0 p f (subst (λ (d : Draft). IsProblemOf d p) (declares_once h.1 i.1 refl) h.2) i.2
+spelled_or_faulty bytes p f h (inr i) = spelled_or_ended (lines_of bytes) p f h i

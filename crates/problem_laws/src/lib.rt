@@ -1,20 +1,16 @@
-// Laws of problem texts.
+//! Laws of problem texts: a text has one reading, a next line and an end have one outcome, and
+//! canonical texts and no others are read line by line as canonical.
 #![tactic(auto)]
 
-ghost use Rattle.merge_model.specs.declared.problem.Problem.{Problem};
-ghost use Rattle.problem_reading.specs.declared.stop.TextFault.{TextFault};
-ghost use Rattle.problem_reading.specs.Spelling.{Spelled, FirstFault};
-ghost use Rattle.problem_laws.specs.HasReading.{HasReading};
-ghost use Rattle.problem_laws.specs.Sameness.{SameProblem, SameFault};
-
+mod canonical;
 mod next;
+mod texts;
 
-pub use next::each_next_line_has_one_outcome;
-
-/// Each text spells exactly one problem or has exactly one first fault, and never both.
-pub fn each_text_has_one_reading(_bytes: &[u8])
-    ensures has_reading { HasReading _bytes.now }
-    ensures one_problem { (p q : Problem) → Spelled _bytes.now p → Spelled _bytes.now q → SameProblem p q }
-    ensures one_fault { (f g : TextFault) → FirstFault _bytes.now f → FirstFault _bytes.now g → SameFault f g }
-    ensures never_both { (p : Problem) (f : TextFault) → Spelled _bytes.now p → FirstFault _bytes.now f → ⊥ }
-{}
+pub use canonical::{
+    canonical_lines_come_next, canonical_lines_have_their_forms, canonical_order,
+    canonical_text_has_its_lines, canonical_text_spells_its_problem,
+};
+pub use next::{
+    each_end_has_one_outcome, each_next_line_has_one_outcome, refused_is_not_canonical,
+};
+pub use texts::each_text_has_one_reading;

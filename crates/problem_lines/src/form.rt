@@ -2,7 +2,8 @@ ghost use Rattle.std.specs.Prelude.{◌≡◌, ◌≤◌, ◌+◌, ◌-◌, ◌*
 ghost use Rattle.std.specs.Char.{is_ascii_digit};
 ghost use Rattle.std.specs.List.{list_all};
 ghost use Rattle.line_tokens.specs.Lexemes.{lexeme_of};
-ghost use Rattle.problem_lines.specs.Forms.{form_of, atoms_form, agent_form, times_form, numeral_form, base_form, is_name_token, token_word};
+ghost use Rattle.problem_lines.specs.Forms.{form_of, atoms_form, agent_form, times_form};
+ghost use Rattle.problem_lines.specs.Forms.{numeral_form, base_form, is_name_token, token_word};
 ghost use Rattle.problem_lines.specs.Numerals.{is_numeral, times_cap, value_after};
 ghost use Rattle.problem_lines.specs.Views.{IsForm};
 
@@ -36,6 +37,7 @@ pub enum LineForm<'a> {
     Unknown,
 }
 
+/// Whether each byte is a digit.
 fn are_digits(bytes: &[u8]) -> bool
     ensures { result ≡ list_all is_ascii_digit bytes.now }
 {
@@ -75,6 +77,7 @@ fn value(word: &str) -> u32
     number
 }
 
+/// Whether a token is a word that does not begin with a digit.
 fn is_name(token: &Token) -> bool
     ensures { result ≡ is_name_token (lexeme_of token.now) }
 {
@@ -94,6 +97,7 @@ pub fn token_word<'a>(token: Token<'a>) -> &'a str
     }
 }
 
+/// Whether each token is such a word.
 fn are_names(tokens: &[Token]) -> bool
     ensures { result ≡ list_all is_name_token (map lexeme_of tokens.now) }
 {
@@ -105,6 +109,7 @@ fn are_names(tokens: &[Token]) -> bool
     true
 }
 
+/// The form of a line with these tokens after `atoms`.
 fn atoms_form<'a>(tokens: &'a [Token<'a>]) -> LineForm<'a>
     ensures { IsForm result (atoms_form (map lexeme_of tokens.now)) }
 {
@@ -115,8 +120,10 @@ fn atoms_form<'a>(tokens: &'a [Token<'a>]) -> LineForm<'a>
     }
 }
 
+/// The form of a line of this agent with these tokens after its number of times.
 fn base_form<'a>(name: &'a str, times: u32, tokens: &'a [Token<'a>]) -> LineForm<'a>
-    ensures { (n : ℕ) → times ≡ min n times_cap → IsForm result (base_form name.now n (map lexeme_of tokens.now)) }
+    ensures { (n : ℕ) → times ≡ min n times_cap →
+        IsForm result (base_form name.now n (map lexeme_of tokens.now)) }
 {
     match tokens {
         [Token::Colon, base @ ..] => LineForm::Agent { name, times, base },
@@ -124,6 +131,7 @@ fn base_form<'a>(name: &'a str, times: u32, tokens: &'a [Token<'a>]) -> LineForm
     }
 }
 
+/// The form of a line of this agent with these tokens after `times`.
 fn numeral_form<'a>(name: &'a str, tokens: &'a [Token<'a>]) -> LineForm<'a>
     ensures { IsForm result (numeral_form name.now (map lexeme_of tokens.now)) }
 {
@@ -139,6 +147,7 @@ fn numeral_form<'a>(name: &'a str, tokens: &'a [Token<'a>]) -> LineForm<'a>
     }
 }
 
+/// The form of a line of this agent with these tokens after its name.
 fn times_form<'a>(name: &'a str, tokens: &'a [Token<'a>]) -> LineForm<'a>
     ensures { IsForm result (times_form name.now (map lexeme_of tokens.now)) }
 {
@@ -159,6 +168,7 @@ fn times_form<'a>(name: &'a str, tokens: &'a [Token<'a>]) -> LineForm<'a>
     }
 }
 
+/// The form of a line with these tokens after `agent`.
 fn agent_form<'a>(tokens: &'a [Token<'a>]) -> LineForm<'a>
     ensures { IsForm result (agent_form (map lexeme_of tokens.now)) }
 {

@@ -9,7 +9,7 @@ use std::alloc::Global;
 
 /// What the lines read so far declare.
 #[derive(Drop)]
-pub(crate) struct Declarations {
+pub struct Declarations {
     /// Where the memory of what is declared comes from.
     pub alloc: Global,
     /// The atoms, in order of declaration.
@@ -26,7 +26,9 @@ pub(crate) struct Declarations {
     pub other_nodes: u64,
     /// How often the agents count together.
     pub times: u32,
-    pub ghost kept: { IsKept atoms constraint agents.items asks.items constraint_nodes other_nodes times },
+    /// That the numbers are those of what is declared, which keeps the limits.
+    pub ghost kept: { IsKept atoms constraint agents.items asks.items
+        constraint_nodes other_nodes times },
 }
 
 impl Declarations {
@@ -34,7 +36,7 @@ impl Declarations {
     ghost use Rattle.problem_reading.specs.Views.{draft_of};
 
     /// What no lines declare.
-    pub(crate) fn new(alloc: Global) -> Declarations
+    pub fn new(alloc: Global) -> Declarations
         ensures { draft_of result ≡ empty_draft }
     {
         Declarations {
@@ -57,7 +59,7 @@ impl Declarations {
     ghost use Rattle.problem_reading.specs.Views.{draft_of};
 
     /// Takes in what a line said; `NoMemory` leaves the declarations as they were.
-    pub(crate) fn take(&mut self, said: Said) -> Result<(), NoMemory>
+    pub fn take(&mut self, said: Said) -> Result<(), NoMemory>
         requires { Fits (draft_of self.old) said }
         ensures taken { OnOk result (draft_of self.new ≡ after (draft_of self.old) said) }
         ensures kept { OnErr result (draft_of self.new ≡ draft_of self.old) }

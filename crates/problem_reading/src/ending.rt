@@ -7,6 +7,7 @@ use crate::stop::{TextFault, TextKind, TextStop};
 use formulas::Formula;
 use merge_model::{Problem, Sequence};
 
+/// The fault of the end that is of this kind.
 fn end_fault(kind: TextKind) -> TextStop
     ensures { result ≡ TextStop.Fault (record { line = 0; kind = kind }) }
 {
@@ -15,7 +16,7 @@ fn end_fault(kind: TextKind) -> TextStop
 
 impl Declarations {
     /// The problem that is declared, or the fault of line 0: no atom, or else no agent.
-    pub(crate) fn finish(self) -> Result<Problem, TextStop>
+    pub fn finish(self) -> Result<Problem, TextStop>
         ensures problem { IfOk result (IsProblemOf (draft_of self)) }
         ensures stop { IfErr result (EndsAt (draft_of self)) }
     {

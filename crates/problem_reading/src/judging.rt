@@ -2,7 +2,8 @@ ghost use Rattle.std.specs.Prelude.{◌≡◌, ◌+◌, ◌≤◌, ℕ, IfOk, If
 ghost use Rattle.std.specs.List.{list_all};
 ghost use Rattle.formulas.specs.Limits.{node_limit, times_limit};
 ghost use Rattle.line_tokens.specs.Lexemes.{lexeme_of};
-ghost use Rattle.problem_lines.specs.Forms.{Form, condition, belief, query, declaration, is_name_token, words_of};
+ghost use Rattle.problem_lines.specs.Forms.{Form, condition, belief, query, declaration};
+ghost use Rattle.problem_lines.specs.Forms.{is_name_token, words_of};
 ghost use Rattle.problem_lines.specs.Numerals.{times_cap};
 ghost use Rattle.problem_lines.specs.Views.{IsForm};
 ghost use Rattle.problem_reading.specs.Drafts.{size_of, believes_too_much};
@@ -12,7 +13,7 @@ ghost use Rattle.problem_reading.specs.Stops.{IsFormStop, IsLineStop};
 ghost use Rattle.problem_reading.specs.Views.{draft_of};
 
 use crate::declarations::Declarations;
-use crate::formula::line_formula;
+use crate::formula::{OtherFaults, line_formula};
 use crate::names::{any_declared, any_long, any_reserved, are_distinct, extended};
 use crate::said::Said;
 use crate::stop::{LineStop, TextKind};
@@ -37,28 +38,35 @@ fn is_over(tokens: &[Token], used: u64) -> bool
 
 /// The constraint that a line's tokens spell, or the line's least fault.
 pub fn judge_condition(declared: &Declarations, tokens: &[Token]) -> Result<Formula, LineStop>
-    ensures said { IfOk result (λ f. IsSaid (draft_of declared.now) (condition (map lexeme_of tokens.now)) (Said.Condition f)) }
-    ensures stop { IfErr result (IsFormStop (draft_of declared.now) (condition (map lexeme_of tokens.now))) }
+    ensures said { IfOk result
+        (λ f. IsSaid (draft_of declared.now) (condition (map lexeme_of tokens.now))
+        (Said.Condition f)) }
+    ensures stop { IfErr result
+        (IsFormStop (draft_of declared.now) (condition (map lexeme_of tokens.now))) }
 {
-    let over = is_over(tokens, declared.other_nodes);
-    line_formula(
-        declared.alloc,
-        tokens,
-        &declared.atoms,
-        false,
-        declared.constraint.is_some(),
-        over,
-    )
+    let other = OtherFaults {
+        reserved: false,
+        twice: declared.constraint.is_some(),
+        over: is_over(tokens, declared.other_nodes),
+    };
+    line_formula(declared.alloc, tokens, &declared.atoms, other)
 }
 
 /// The query that a line's tokens spell, or the line's least fault.
 pub fn judge_query(declared: &Declarations, tokens: &[Token]) -> Result<Formula, LineStop>
-    ensures said { IfOk result (λ f. IsSaid (draft_of declared.now) (query (map lexeme_of tokens.now)) (Said.Query f)) }
-    ensures stop { IfErr result (IsFormStop (draft_of declared.now) (query (map lexeme_of tokens.now))) }
+    ensures said { IfOk result
+        (λ f. IsSaid (draft_of declared.now) (query (map lexeme_of tokens.now)) (Said.Query f)) }
+    ensures stop { IfErr result
+        (IsFormStop (draft_of declared.now) (query (map lexeme_of tokens.now))) }
 {
     let over = declared.asks.len() >= ASK_LIMIT
         || is_over(tokens, declared.constraint_nodes + declared.other_nodes);
-    line_formula(declared.alloc, tokens, &declared.atoms, false, false, over)
+    let other = OtherFaults {
+        reserved: false,
+        twice: false,
+        over,
+    };
+    line_formula(declared.alloc, tokens, &declared.atoms, other)
 }
 
 /// Whether an agent of this name is there.
@@ -84,7 +92,8 @@ fn is_too_often(used: u32, times: u32) -> bool
 /// Whether one more agent passes a limit.
 fn believes_too_much(declared: &Declarations, name: &str, times: u32, tokens: &[Token]) -> bool
     requires capped { times ≤ times_cap }
-    ensures { (n : ℕ) → times ≡ min n times_cap → result ≡ believes_too_much (draft_of declared.now) name.now n (map lexeme_of tokens.now) }
+    ensures { (n : ℕ) → times ≡ min n times_cap →
+        result ≡ believes_too_much (draft_of declared.now) name.now n (map lexeme_of tokens.now) }
 {
     let over = is_over(tokens, declared.constraint_nodes + declared.other_nodes);
     let often = is_too_often(declared.times, times);
@@ -106,20 +115,19 @@ pub fn judge_belief(
     tokens: &[Token],
 ) -> Result<Agent, LineStop>
     requires capped { times ≤ times_cap }
-    ensures said { (n : ℕ) → times ≡ min n times_cap → IfOk result (λ agent. IsSaid (draft_of declared.now) (belief name.now n (map lexeme_of tokens.now)) (Said.Belief agent)) }
-    ensures stop { (n : ℕ) → times ≡ min n times_cap → IfErr result (IsFormStop (draft_of declared.now) (belief name.now n (map lexeme_of tokens.now))) }
+    ensures said { (n : ℕ) → times ≡ min n times_cap →
+        IfOk result (λ agent. IsSaid (draft_of declared.now)
+        (belief name.now n (map lexeme_of tokens.now)) (Said.Belief agent)) }
+    ensures stop { (n : ℕ) → times ≡ min n times_cap →
+        IfErr result (IsFormStop (draft_of declared.now)
+        (belief name.now n (map lexeme_of tokens.now))) }
 {
-    let reserved = is_reserved(name.as_bytes());
-    let twice = is_agent(declared, name);
-    let over = believes_too_much(declared, name, times, tokens);
-    let base = line_formula(
-        declared.alloc,
-        tokens,
-        &declared.atoms,
-        reserved,
-        twice,
-        over,
-    )?;
+    let other = OtherFaults {
+        reserved: is_reserved(name.as_bytes()),
+        twice: is_agent(declared, name),
+        over: believes_too_much(declared, name, times, tokens),
+    };
+    let base = line_formula(declared.alloc, tokens, &declared.atoms, other)?;
     let name = copied(declared.alloc, name)?;
     Ok(Agent { name, times, base })
 }
@@ -127,8 +135,11 @@ pub fn judge_belief(
 /// The atoms with those that a line's tokens declare, or the line's least fault.
 pub fn judge_names(declared: &Declarations, tokens: &[Token]) -> Result<Atoms, LineStop>
     requires names { list_all is_name_token (map lexeme_of tokens.now) ≡ true }
-    ensures said { IfOk result (λ atoms. IsSaid (draft_of declared.now) (declaration (words_of (map lexeme_of tokens.now))) (Said.Names atoms)) }
-    ensures stop { IfErr result (IsFormStop (draft_of declared.now) (declaration (words_of (map lexeme_of tokens.now)))) }
+    ensures said { IfOk result
+        (λ atoms. IsSaid (draft_of declared.now) (declaration (words_of (map lexeme_of tokens.now)))
+        (Said.Names atoms)) }
+    ensures stop { IfErr result
+        (IsFormStop (draft_of declared.now) (declaration (words_of (map lexeme_of tokens.now)))) }
 {
     if any_reserved(tokens) {
         return Err(LineStop::Fault(TextKind::Reserved));
@@ -151,8 +162,10 @@ pub fn judge_names(declared: &Declarations, tokens: &[Token]) -> Result<Atoms, L
 /// What a line of this form says, or its least fault.
 fn judge_form(declared: &Declarations, form: LineForm) -> Result<Said, LineStop>
     requires { (f : Form) × IsForm form f }
-    ensures said { (f : Form) → IsForm form.entry f → IfOk result (IsSaid (draft_of declared.now) f) }
-    ensures stop { (f : Form) → IsForm form.entry f → IfErr result (IsFormStop (draft_of declared.now) f) }
+    ensures said { (f : Form) → IsForm form.entry f →
+        IfOk result (IsSaid (draft_of declared.now) f) }
+    ensures stop { (f : Form) → IsForm form.entry f →
+        IfErr result (IsFormStop (draft_of declared.now) f) }
 {
     match form {
         LineForm::Blank => Ok(Said::Nothing),

@@ -17,9 +17,11 @@ impl Declarations {
     /// Takes in one more line, and tells whether it has tokens and is written as in a canonical
     /// text. A refusal, which names the least fault of the line or says that there was no memory
     /// left, changes nothing.
-    pub(crate) fn line(&mut self, line: &[u8]) -> Result<bool, LineStop>
+    pub fn line(&mut self, line: &[u8]) -> Result<bool, LineStop>
         ensures read { OnOk result (Adds (draft_of self.old) line.now (draft_of self.new)) }
-        ensures canonical { IfOk result (λ written. (said : Said) → Says (draft_of self.old) line.now said → (IsTrue written ↔ IsWritten (draft_of self.old) line.now said)) }
+        ensures canonical { IfOk result
+            (λ written. (said : Said) → Says (draft_of self.old) line.now said →
+            (IsTrue written ↔ IsWritten (draft_of self.old) line.now said)) }
         ensures stop { IfErr result (IsLineStop (draft_of self.old) line.now) }
         ensures kept { OnErr result (draft_of self.new ≡ draft_of self.old) }
     {
@@ -32,7 +34,8 @@ impl Declarations {
     fn take_line(&mut self, said: Said, line: &[u8]) -> Result<bool, NoMemory>
         requires { Fits (draft_of self.old) said }
         ensures taken { OnOk result (draft_of self.new ≡ after (draft_of self.old) said) }
-        ensures written { IfOk result (λ written. IsTrue written ↔ IsWritten (draft_of self.old) line.now said) }
+        ensures written { IfOk result
+            (λ written. IsTrue written ↔ IsWritten (draft_of self.old) line.now said) }
         ensures kept { OnErr result (draft_of self.new ≡ draft_of self.old) }
     {
         let written = is_written(self, &said, line)?;

@@ -1,5 +1,5 @@
-ghost use Rattle.std.specs.Prelude.{◌≡◌, [], ◌∷◌, ◌++◌, ◌+◌, ◌≤◌, true, false, length, map, IfOk, OnOk, OnErr};
-ghost use Rattle.std.specs.List.{list_any, list_all};
+ghost use Rattle.std.specs.Prelude.{◌≡◌, [], ◌∷◌, ◌++◌, ◌≤◌, true, false, length, map, IfOk, OnOk};
+ghost use Rattle.std.specs.List.{list_any};
 ghost use Rattle.std.specs.Str.{bytes_eq};
 ghost use Rattle.formulas.specs.Limits.{atom_limit};
 ghost use Rattle.formulas.specs.Names.{is_reserved, are_distinct, are_names, names_of};
@@ -30,6 +30,7 @@ impl Model for Seen {
 }
 
 impl Seen {
+    /// No words yet.
     pub fn new(alloc: Global) -> Seen
         ensures { result ≡ [] }
     {
@@ -61,7 +62,8 @@ impl Seen {
 
 /// Whether no word of the tokens comes twice; `NoMemory` for want of memory.
 pub fn are_distinct(alloc: Global, tokens: &[Token]) -> Result<bool, NoMemory>
-    ensures { IfOk result (λ distinct. distinct ≡ are_distinct (words_of (map lexeme_of tokens.now))) }
+    ensures { IfOk result
+        (λ distinct. distinct ≡ are_distinct (words_of (map lexeme_of tokens.now))) }
 {
     let mut seen = Seen::new(alloc);
     for token in tokens {
@@ -110,7 +112,8 @@ fn is_declared(atoms: &Atoms, name: &str) -> bool
 
 /// Whether a word of the tokens is the name of an atom.
 pub fn any_declared(atoms: &Atoms, tokens: &[Token]) -> bool
-    ensures { result ≡ list_any (λ name. list_any (bytes_eq name) (names_of atoms.now)) (words_of (map lexeme_of tokens.now)) }
+    ensures { result ≡ list_any (λ name. list_any (bytes_eq name) (names_of atoms.now))
+        (words_of (map lexeme_of tokens.now)) }
 {
     for token in tokens {
         if is_declared(atoms, token_word(*token)) {

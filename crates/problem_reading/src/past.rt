@@ -6,7 +6,7 @@ use std::marker::Model;
 
 /// A list of lines that takes no memory: only clauses see it, and its functions do nothing.
 #[derive(Drop)]
-pub(crate) struct Past {
+pub struct Past {
     pub ghost lines: { List (List ℕ) },
 }
 
@@ -16,14 +16,14 @@ impl Model for Past {
 
 impl Past {
     /// No lines.
-    pub(crate) fn new() -> Past
+    pub fn new() -> Past
         ensures { result.lines ≡ [] }
     {
         Past {}
     }
 
     /// The lines with one more at their end.
-    pub(crate) fn with(_before: &Past, _line: &[u8]) -> Past
+    pub fn with(_before: &Past, _line: &[u8]) -> Past
         ensures { result.lines ≡ _before.now.lines ++ _line.now ∷ [] }
     {
         Past {}

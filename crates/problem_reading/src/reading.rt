@@ -1,5 +1,7 @@
-ghost use Rattle.std.specs.Prelude.{◌≡◌, ◌<◌, ◌^◌, ◌↔◌, [], ◌∷◌, ◌++◌, length, IsTrue, IfOk, OnOk, OnErr, IfErr};
-ghost use Rattle.problem_reading.specs.Lines.{AreFaultless, StopsAfter, IsCanonicalNext, Spell, StopsAtEnd};
+ghost use Rattle.std.specs.Prelude.{◌≡◌, ◌<◌, ◌^◌, ◌↔◌, [], ◌∷◌, ◌++◌, length, IsTrue, IfOk, OnOk};
+ghost use Rattle.std.specs.Prelude.{OnErr, IfErr};
+ghost use Rattle.problem_reading.specs.Lines.{AreFaultless, StopsAfter, IsCanonicalNext, Spell};
+ghost use Rattle.problem_reading.specs.Lines.{StopsAtEnd};
 
 use crate::declarations::Declarations;
 use crate::past::Past;
@@ -50,7 +52,8 @@ impl Reading {
     pub fn line(&mut self, line: &[u8]) -> Result<bool, TextStop>
         requires few { length self.old < 2 ^ 63 }
         ensures read { OnOk result (self.new ≡ self.old ++ line.now ∷ []) }
-        ensures canonical { IfOk result (λ written. IsTrue written ↔ IsCanonicalNext self.old line.now) }
+        ensures canonical { IfOk result
+            (λ written. IsTrue written ↔ IsCanonicalNext self.old line.now) }
         ensures stop { IfErr result (StopsAfter self.old line.now) }
         ensures kept { OnErr result (self.new ≡ self.old) }
         ensures faultless { AreFaultless self.new }

@@ -1,4 +1,5 @@
 use crate::{Reading, TextFault, TextKind, TextStop, read_problem};
+use profile_text::canonical_text;
 use std::test::Fail;
 
 #[test]
@@ -53,16 +54,9 @@ fn a_problem_is_read(rt: HostRuntime) -> Result<(), Fail> {
     match read_problem(alloc, text) {
         Err(_) => assert!(rt; false),
         Ok(problem) => {
-            let agents = problem.agents.as_slice();
-            let shown = format!(in alloc;
-                "{agents:?} {:?} {:?}",
-                problem.constraint,
-                problem.asks.as_slice()
-            )?;
-            let want =
-                "[Agent { name: Sequence { items: [112] }, times: 3, base: Top }, Agent { name: Sequence { items: [113] }, times: 1, base: Atom(1) }] Atom(2) [Atom(1)]";
-            assert_eq!(rt; shown.as_str(), want);
-            assert_eq!(rt; problem.atoms.number_of("c"), Some(2));
+            let want = b"atoms a b c\nconstraint c\nagent p times 3 : true\nagent q : b\nask b\n";
+            let written = canonical_text(alloc, &problem)?;
+            assert_eq!(rt; written.as_slice(), want.as_slice());
         }
     }
     Ok(())

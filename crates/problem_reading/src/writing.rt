@@ -17,13 +17,10 @@ fn is_text(line: &[u8], text: Vec<u8>) -> bool
 
 /// Whether a line that says this is written as in a canonical text; `NoMemory` for want of
 /// memory.
-pub(crate) fn is_written(
-    declared: &Declarations,
-    said: &Said,
-    line: &[u8],
-) -> Result<bool, NoMemory>
+pub fn is_written(declared: &Declarations, said: &Said, line: &[u8]) -> Result<bool, NoMemory>
     requires { Fits (draft_of declared.now) said.now }
-    ensures { IfOk result (λ written. IsTrue written ↔ IsWritten (draft_of declared.now) line.now said.now) }
+    ensures { IfOk result
+        (λ written. IsTrue written ↔ IsWritten (draft_of declared.now) line.now said.now) }
 {
     let alloc = declared.alloc;
     let atoms = &declared.atoms;

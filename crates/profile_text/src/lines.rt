@@ -1,13 +1,15 @@
 ghost use Rattle.std.specs.Prelude.{◌≡◌, ◌≤◌, ◌++◌, drop, length, IfOk, OnOk};
 ghost use Rattle.formulas.specs.Formulas.{width_of};
 ghost use Rattle.formulas.specs.Names.{names_of};
-ghost use Rattle.profile_text.specs.ProblemText.{agent_line, ask_line, atoms_line, constraint_line, times_text};
+ghost use Rattle.profile_text.specs.ProblemText.{agent_line, ask_line, atoms_line, constraint_line};
+ghost use Rattle.profile_text.specs.ProblemText.{times_text};
 
 use edge::NoMemory;
-use formula_text::{write_bytes, write_formula};
+use formula_text::write_formula;
 use formulas::{Atoms, Formula};
 use itoa::Buffer;
 use merge_model::Agent;
+use report_words::write_bytes;
 use std::alloc::Global;
 
 /// The line that declares the atoms from a number on; `NoMemory` for want of memory.
@@ -27,7 +29,8 @@ pub fn constraint_line(
     atoms: &Atoms,
 ) -> Result<Vec<u8>, NoMemory>
     requires { width_of constraint.now ≤ length atoms.now }
-    ensures { IfOk result (λ line. line.items ≡ constraint_line (names_of atoms.now) constraint.now) }
+    ensures { IfOk result
+        (λ line. line.items ≡ constraint_line (names_of atoms.now) constraint.now) }
 {
     let mut line = Vec::new(alloc);
     write_constraint(constraint, atoms, &mut line)?;
@@ -74,7 +77,8 @@ pub fn write_constraint(
     into: &mut Vec<u8>,
 ) -> Result<(), NoMemory>
     requires { width_of constraint.now ≤ length atoms.now }
-    ensures { OnOk result (into.new.items ≡ into.old.items ++ constraint_line (names_of atoms.now) constraint.now) }
+    ensures { OnOk result
+        (into.new.items ≡ into.old.items ++ constraint_line (names_of atoms.now) constraint.now) }
 {
     write_bytes(b"constraint ", into)?;
     write_formula(constraint, atoms, into)
@@ -83,7 +87,8 @@ pub fn write_constraint(
 /// Appends the line of an agent without its line feed.
 pub fn write_agent(agent: &Agent, atoms: &Atoms, into: &mut Vec<u8>) -> Result<(), NoMemory>
     requires { width_of agent.now.base ≤ length atoms.now }
-    ensures { OnOk result (into.new.items ≡ into.old.items ++ agent_line (names_of atoms.now) agent.now) }
+    ensures { OnOk result
+        (into.new.items ≡ into.old.items ++ agent_line (names_of atoms.now) agent.now) }
 {
     write_bytes(b"agent ", into)?;
     write_bytes(agent.name.as_slice(), into)?;
@@ -107,7 +112,8 @@ fn write_times(times: u32, into: &mut Vec<u8>) -> Result<(), NoMemory>
 /// Appends the line of a query without its line feed.
 pub fn write_ask(ask: &Formula, atoms: &Atoms, into: &mut Vec<u8>) -> Result<(), NoMemory>
     requires { width_of ask.now ≤ length atoms.now }
-    ensures { OnOk result (into.new.items ≡ into.old.items ++ ask_line (names_of atoms.now) ask.now) }
+    ensures { OnOk result
+        (into.new.items ≡ into.old.items ++ ask_line (names_of atoms.now) ask.now) }
 {
     write_bytes(b"ask ", into)?;
     write_formula(ask, atoms, into)

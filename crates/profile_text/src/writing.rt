@@ -1,13 +1,14 @@
 ghost use Rattle.std.specs.Prelude.{◌≡◌, ◌≤◌, ◌++◌, length, map, All, codes, IfOk, OnOk, OnErr};
 ghost use Rattle.formulas.specs.Formulas.{width_of};
 ghost use Rattle.formulas.specs.Names.{names_of};
-ghost use Rattle.profile_text.specs.ProblemText.{agent_line, ask_line, atoms_line, constraint_line, lines_text, problem_text};
+ghost use Rattle.profile_text.specs.ProblemText.{agent_line, ask_line, atoms_line, constraint_line};
+ghost use Rattle.profile_text.specs.ProblemText.{lines_text, problem_text};
 
 use crate::lines::{write_agent, write_ask, write_atoms, write_constraint};
 use edge::NoMemory;
-use formula_text::write_bytes;
 use formulas::{Atoms, Formula};
 use merge_model::{Agent, Problem};
+use report_words::write_bytes;
 use std::alloc::Global;
 
 /// Appends the canonical text of a problem, or nothing on `NoMemory`.
@@ -33,7 +34,8 @@ pub fn canonical_text(alloc: Global, problem: &Problem) -> Result<Vec<u8>, NoMem
 
 /// Appends the line that declares the atoms.
 fn write_atoms_line(atoms: &Atoms, into: &mut Vec<u8>) -> Result<(), NoMemory>
-    ensures { OnOk result (into.new.items ≡ into.old.items ++ (atoms_line atoms.now ++ codes "\n")) }
+    ensures { OnOk result
+        (into.new.items ≡ into.old.items ++ (atoms_line atoms.now ++ codes "\n")) }
 {
     write_atoms(atoms, 0, into)?;
     write_bytes(b"\n", into)
@@ -46,7 +48,9 @@ fn write_constraint_line(
     into: &mut Vec<u8>,
 ) -> Result<(), NoMemory>
     requires { width_of constraint.now ≤ length atoms.now }
-    ensures { OnOk result (into.new.items ≡ into.old.items ++ (constraint_line (names_of atoms.now) constraint.now ++ codes "\n")) }
+    ensures { OnOk result
+        (into.new.items ≡ into.old.items ++
+        (constraint_line (names_of atoms.now) constraint.now ++ codes "\n")) }
 {
     write_constraint(constraint, atoms, into)?;
     write_bytes(b"\n", into)
@@ -55,7 +59,9 @@ fn write_constraint_line(
 /// Appends the lines of the agents.
 fn write_agent_lines(agents: &[Agent], atoms: &Atoms, into: &mut Vec<u8>) -> Result<(), NoMemory>
     requires { All (λ agent. width_of agent.base ≤ length atoms.now) agents.now }
-    ensures { OnOk result (into.new.items ≡ into.old.items ++ lines_text (map (agent_line (names_of atoms.now)) agents.now)) }
+    ensures { OnOk result
+        (into.new.items ≡ into.old.items ++ lines_text
+        (map (agent_line (names_of atoms.now)) agents.now)) }
 {
     for agent in agents {
         write_agent_line(agent, atoms, into)?;
@@ -66,7 +72,9 @@ fn write_agent_lines(agents: &[Agent], atoms: &Atoms, into: &mut Vec<u8>) -> Res
 /// Appends the line of an agent.
 fn write_agent_line(agent: &Agent, atoms: &Atoms, into: &mut Vec<u8>) -> Result<(), NoMemory>
     requires { width_of agent.now.base ≤ length atoms.now }
-    ensures { OnOk result (into.new.items ≡ into.old.items ++ (agent_line (names_of atoms.now) agent.now ++ codes "\n")) }
+    ensures { OnOk result
+        (into.new.items ≡ into.old.items ++
+        (agent_line (names_of atoms.now) agent.now ++ codes "\n")) }
 {
     write_agent(agent, atoms, into)?;
     write_bytes(b"\n", into)
@@ -75,7 +83,9 @@ fn write_agent_line(agent: &Agent, atoms: &Atoms, into: &mut Vec<u8>) -> Result<
 /// Appends the lines of the queries.
 fn write_ask_lines(asks: &[Formula], atoms: &Atoms, into: &mut Vec<u8>) -> Result<(), NoMemory>
     requires { All (λ ask. width_of ask ≤ length atoms.now) asks.now }
-    ensures { OnOk result (into.new.items ≡ into.old.items ++ lines_text (map (ask_line (names_of atoms.now)) asks.now)) }
+    ensures { OnOk result
+        (into.new.items ≡ into.old.items ++ lines_text
+        (map (ask_line (names_of atoms.now)) asks.now)) }
 {
     for ask in asks {
         write_ask_line(ask, atoms, into)?;
@@ -86,7 +96,8 @@ fn write_ask_lines(asks: &[Formula], atoms: &Atoms, into: &mut Vec<u8>) -> Resul
 /// Appends the line of a query.
 fn write_ask_line(ask: &Formula, atoms: &Atoms, into: &mut Vec<u8>) -> Result<(), NoMemory>
     requires { width_of ask.now ≤ length atoms.now }
-    ensures { OnOk result (into.new.items ≡ into.old.items ++ (ask_line (names_of atoms.now) ask.now ++ codes "\n")) }
+    ensures { OnOk result
+        (into.new.items ≡ into.old.items ++ (ask_line (names_of atoms.now) ask.now ++ codes "\n")) }
 {
     write_ask(ask, atoms, into)?;
     write_bytes(b"\n", into)

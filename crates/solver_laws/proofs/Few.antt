@@ -7,8 +7,8 @@ use Rattle.derivation_log.specs.Logs.{Log, learned_of, IsNew, is_learned}
 use Rattle.derivation_log.specs.declared.step.Step.{Step}
 use Rattle.clause_store.specs.Lits.{Includes}
 use Rattle.clause_store.proofs.Each.{each_index}
-use Rattle.ternary.specs.Digits.{IsFit}
-use Rattle.ternary.proofs.Codes.{count_law}
+use Rattle.solver_laws.specs.Digits.{IsFit}
+use Rattle.solver_laws.proofs.Codes.{count_law}
 use Rattle.solver_laws.specs.Ready.{AllFit, IsLog}
 
 all_cons : (P : List Lit → Type 0) (x : List Lit) (xs : List (List Lit)) → P x → All P xs → All P (x ∷ xs)

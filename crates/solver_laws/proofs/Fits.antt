@@ -8,7 +8,7 @@ use Rattle.watch_lists.specs.declared.entry.Entry.{Entry}
 use Rattle.watch_lists.specs.Trace.{entry_of, under, room_of}
 use Rattle.solver_laws.specs.Ready.{IsFalseIn}
 use Rattle.std.specs.List.{AllByRecursion}
-use Rattle.ternary.specs.Digits.{IsAbove, IsFit}
+use Rattle.solver_laws.specs.Digits.{IsAbove, IsFit}
 
 both_false : (o : Option Entry) → under o true ≡ Some false → under o false ≡ Some false → ⊥
 both_false None h k = cc

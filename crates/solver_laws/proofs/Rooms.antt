@@ -1,23 +1,17 @@
 -- What clauses leave open under a trail and its lower levels.
 use Rattle.std.proofs.Common.{◌≡◌, ◌≢◌, ℕ, ◌+◌, ◌<◌, ◌≤◌, Bool, true, false, not, List, [], ◌∷◌, length, refl, ap, sym, ◌∙◌, arith, cond, eqb, inl, inr, subst, zero, suc, Some, None, Option, get_or}
-use Rattle.std.specs.Prelude.{nat_lt, nat_le, ◌||◌, ◌⊎◌, Contains}
+use Rattle.std.specs.Prelude.{nat_lt, nat_le, ◌||◌, Contains}
 use Rattle.std.proofs.lemmas.Bool.{cases_lt, cases_eq, cases_Bool, false≢true}
 use Rattle.std.proofs.Math.Bool.{beq}
 use Rattle.std.proofs.lemmas.List.Sums.{sum_by-cons}
 use Rattle.clause_store.specs.declared.lit.Lit.{Lit}
 use Rattle.clause_store.specs.Lits.{rank_of, negated, same_lit, without, with_lit, joined, resolvent, IsBelow, Ascends, has, Includes}
 use Rattle.clause_store.proofs.Lits.{rank_lit}
-use Rattle.clause_store.proofs.Truths.{or_cases}
+use Rattle.clause_store.proofs.Truths.{or_cases, or_left, or_right}
 use Rattle.watch_lists.specs.declared.entry.Entry.{Entry}
 use Rattle.watch_lists.specs.Trace.{value_of, entry_of, under, room_in, room_of, upto, AreApart, IsStacked, Place, places_of, Extends}
 use Rattle.solver_laws.specs.Ready.{IsFalseIn, Tops}
 use Rattle.std.specs.List.{AllByRecursion}
-
-pub or_left : (a b : Bool) → a ≡ true → a || b ≡ true
-or_left a b h = grind arith
-
-pub or_right : (a b : Bool) → b ≡ true → a || b ≡ true
-or_right a b h = grind arith
 
 pub same_lit-is : (l m : Lit) → same_lit l m ≡ true → l ≡ m
 same_lit-is l m h = let e : rank_of l ≡ rank_of m = grind arith in rank_lit l m e
@@ -53,10 +47,6 @@ each_without P R p (l ∷ ls) f e =
 
 pub each_resolvent : (P R : Lit → Type 0) (p : Lit) (c d : List Lit) → ((l : Lit) → P l → same_lit l p ≡ false → R l) → AllByRecursion P c → AllByRecursion R (without (negated p) d) → AllByRecursion R (resolvent p c d)
 each_resolvent P R p c d f e g = each-joined R (without p c) (without (negated p) d) (each_without P R p c f e) g
-
-pub each_has : (P : Lit → Type 0) (c : List Lit) (l : Lit) → AllByRecursion P c → has l c ≡ true → P l
-each_has P [] l e h = absurd (cc)
-each_has P (m ∷ ms) l e h = elim (or_cases (same_lit l m) (has l ms) h) [ inl t ↦ subst P (sym (same_lit-is l m t)) e.0 | inr t ↦ each_has P ms l e.1 t ]
 
 -- what passes where the literal is not in the clause
 pub each_lacks : (P R : Lit → Type 0) (p : Lit) (c : List Lit) → ((l : Lit) → P l → same_lit l p ≡ false → R l) → AllByRecursion P c → has p c ≡ false → AllByRecursion R c
@@ -281,12 +271,9 @@ tops_lacks v low (e ∷ es) t h =
     ]
 
 -- under a decision's lower levels a clause that is false leaves one literal open at most
-each_room : (es : List Entry) (c : List Lit) → AllByRecursion (IsFalseIn es) c → room_of es c ≡ 0
-each_room es [] e = refl
-each_room es (l ∷ ls) e = omega (arith, ap room_in e.0, each_room es ls e.1, room_cons es l ls)
-
 pub room_zero_each : (es : List Entry) (c : List Lit) → AllByRecursion (IsFalseIn es) c → room_of es c ≡ 0
-room_zero_each = each_room
+room_zero_each es [] e = refl
+room_zero_each es (l ∷ ls) e = omega (arith, ap room_in e.0, room_zero_each es ls e.1, room_cons es l ls)
 
 below_other : (p : Lit) (ls : List Lit) → IsBelow p ls → has p ls ≡ false
 below_other p [] b = refl
@@ -298,7 +285,7 @@ decision_room low d (l ∷ ls) n a e =
     elim (cases_Bool (same_lit l (negated d.lit))) [
       | inl t ↦ (let q = same_lit-is l (negated d.lit) t in
           let lacks : has (negated d.lit) ls ≡ false = below_other (negated d.lit) ls (subst (λ (x : Lit). IsBelow x ls) q a.0) in
-          let r = each_room low ls (each_lacks (IsFalseIn (d ∷ low)) (IsFalseIn low) (negated d.lit) ls (λ x f g. false_before low d x f g) e.1 lacks) in
+          let r = room_zero_each low ls (each_lacks (IsFalseIn (d ∷ low)) (IsFalseIn low) (negated d.lit) ls (λ x f g. false_before low d x f g) e.1 lacks) in
           let one : room_in (value_of low l) ≡ 1 = ap (λ (x : Lit). room_in (value_of low x)) q ∙ ap (λ (o : Option Entry). room_in (under o (negated d.lit).positive)) n in
           omega (arith, r, one, room_cons low l ls))
       | inr t ↦ omega (arith, decision_room low d ls n a.1 e.1, ap room_in (false_before low d l e.0 t), room_cons low l ls)

@@ -1,5 +1,5 @@
 -- What the steps of a solver keep.
-use Rattle.std.proofs.Common.{◌≡◌, ◌≢◌, ℕ, ◌+◌, ◌-◌, ◌≤◌, true, false, List, [], ◌∷◌, ◌++◌, length, refl, ap, sym, ◌∙◌, rules, arith, cond, eqb, inl, inr, subst, zero, suc, Some, None, Option, drop}
+use Rattle.std.proofs.Common.{◌≡◌, ◌≢◌, ℕ, ◌+◌, ◌-◌, ◌≤◌, true, false, List, [], ◌∷◌, ◌++◌, length, refl, ap, sym, ◌∙◌, arith, cond, eqb, inl, inr, subst, zero, suc, Some, None, Option, drop}
 use Rattle.std.specs.Prelude.{Contains, slice_get}
 use Rattle.std.proofs.lemmas.Bool.{cases_eq}
 use Rattle.clause_store.specs.declared.lit.Lit.{Lit}
@@ -41,11 +41,6 @@ drop_false vars (suc n) (x ∷ xs) l a h =
       | inl g ↦ (let q : entry_of xs l.var ≡ None = subst (λ (v : ℕ). entry_of xs v ≡ None) g a.0 in let z = sym (ap (λ (o : Option Entry). under o l.positive) q) ∙ r in absurd (cc))
       | inr g ↦ (let t : eqb x.lit.var l.var ≡ false = grind arith in rw t r)
     ]
-
-pub drop_apart : (vars n : ℕ) (es : List Entry) → AreApart vars es → AreApart vars (drop n es)
-drop_apart vars zero es a = a
-drop_apart vars (suc n) [] a = tt
-drop_apart vars (suc n) (x ∷ xs) a = drop_apart vars n xs a.3
 
 -- what holds of each literal of a clause holds without one
 each_keep : (P : Lit → Type 0) (p : Lit) (c : List Lit) → AllByRecursion P c → AllByRecursion P (without p c)

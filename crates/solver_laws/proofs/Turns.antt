@@ -8,12 +8,12 @@ use Rattle.clause_store.specs.declared.lit.Lit.{Lit}
 use Rattle.clause_store.specs.Lits.{without, Ascends, has, Includes}
 use Rattle.watch_lists.specs.declared.entry.Entry.{Entry}
 use Rattle.watch_lists.specs.Trace.{Trace, Attached, value_of, room_in, room_of, upto, IsStacked, Implies, Grows, Same, More, IsComplete, StandIn, Place, places_of, shorter, ExtendsAt, Extends}
-use Rattle.derivation_log.specs.Logs.{Log, known_of, clauses_of, learned_of, Follows, is_learned}
+use Rattle.derivation_log.specs.Logs.{Log, known_of, learned_of, Follows, is_learned}
 use Rattle.derivation_log.specs.declared.step.Step.{Step}
 use Rattle.derivation_log.proofs.Steps.{sound_push, new_push, learned_push, known_front}
 use Rattle.solver_laws.specs.Ready.{IsFalseIn, IsReason, IsJustified, DecidesOnly, IsReady, IsLog, AllFit}
 use Rattle.std.specs.List.{AllByRecursion}
-use Rattle.ternary.specs.Digits.{IsFit}
+use Rattle.solver_laws.specs.Digits.{IsFit}
 use Rattle.solver_laws.proofs.Rooms.{room_false, room_without, contains_has, room_le, upto_whole, upto_upto, upto_extends}
 use Rattle.clause_store.proofs.Each.{each_at, each_of_index}
 use Rattle.clause_store.proofs.Numbered.{get_front, get_seam}

@@ -5,7 +5,7 @@ use Rattle.clause_store.specs.declared.lit.Lit.{Lit}
 use Rattle.clause_store.specs.Lits.{negated, without, Ascends, has, InRange}
 use Rattle.watch_lists.specs.declared.entry.Entry.{Entry}
 use Rattle.watch_lists.specs.Trace.{Trace, Attached, value_of, upto, IsComplete, StandIn, Place, places_of, ExtendsAt}
-use Rattle.ternary.specs.Digits.{IsFit}
+use Rattle.solver_laws.specs.Digits.{IsFit}
 use Rattle.derivation_log.specs.declared.step.Link.{Link}
 use Rattle.derivation_log.specs.Logs.{Log, known_of, learned_of, IsSound, IsNew, Comes, is_learned}
 use Rattle.derivation_log.specs.declared.step.Step.{Step}

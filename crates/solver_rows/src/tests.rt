@@ -1,6 +1,6 @@
 // What the solver answers to worked questions, and that each step of its logs follows.
 ghost use Rattle.std.specs.Prelude.{◌≡◌, OnOk, IfOk};
-ghost use Rattle.clause_store.specs.Lits.{InRange, negative_lit, positive_lit};
+ghost use Rattle.clause_store.specs.Lits.{InRange};
 
 use cdcl_core::{Reply, Solver};
 use clause_store::{ClauseList, Lit};
@@ -9,24 +9,6 @@ use log_checker::{check_step, refutes};
 use std::alloc::Global;
 use std::test::Fail;
 use watch_lists::Scan;
-
-fn yes(var: u32) -> Lit
-    ensures { result ≡ positive_lit var }
-{
-    Lit {
-        var,
-        positive: true,
-    }
-}
-
-fn no(var: u32) -> Lit
-    ensures { result ≡ negative_lit var }
-{
-    Lit {
-        var,
-        positive: false,
-    }
-}
 
 fn put(list: &mut ClauseList, lits: &[Lit]) -> Result<(), Fail>
     requires in_range { InRange list.old.vars lits.now }
@@ -45,48 +27,60 @@ fn eight_variables(alloc: Global) -> ClauseList
     list
 }
 
-// The variables 1, 2 and 4 are equal, and 3 and 5 are their opposite.
+/// The variables 1, 2 and 4 are equal, and 3 and 5 are their opposite.
 fn eight_clauses(alloc: Global) -> Result<ClauseList, Fail>
     ensures { IfOk result (λ list. list.vars ≡ 8) }
 {
     let mut list = eight_variables(alloc);
-    put(&mut list, &[yes(1), no(2)])?;
-    put(&mut list, &[no(1), yes(2)])?;
-    put(&mut list, &[no(2), no(3)])?;
-    put(&mut list, &[yes(2), yes(3)])?;
-    put(&mut list, &[yes(1), no(4)])?;
-    put(&mut list, &[no(1), yes(4)])?;
-    put(&mut list, &[no(4), no(5)])?;
-    put(&mut list, &[yes(4), yes(5)])?;
+    put(&mut list, &[Lit::positive(1), Lit::negative(2)])?;
+    put(&mut list, &[Lit::negative(1), Lit::positive(2)])?;
+    put(&mut list, &[Lit::negative(2), Lit::negative(3)])?;
+    put(&mut list, &[Lit::positive(2), Lit::positive(3)])?;
+    put(&mut list, &[Lit::positive(1), Lit::negative(4)])?;
+    put(&mut list, &[Lit::negative(1), Lit::positive(4)])?;
+    put(&mut list, &[Lit::negative(4), Lit::negative(5)])?;
+    put(&mut list, &[Lit::positive(4), Lit::positive(5)])?;
     Ok(list)
 }
 
-// Beside these, 6 and 7 are equal, and 8 is whether 1 and 6 differ.
+/// Beside these, 6 and 7 are equal, and 8 is whether 1 and 6 differ.
 fn fourteen_clauses(alloc: Global) -> Result<ClauseList, Fail>
     ensures { IfOk result (λ list. list.vars ≡ 8) }
 {
     let mut list = eight_clauses(alloc)?;
-    put(&mut list, &[yes(6), no(7)])?;
-    put(&mut list, &[no(6), yes(7)])?;
-    put(&mut list, &[yes(1), yes(6), no(8)])?;
-    put(&mut list, &[no(1), no(6), no(8)])?;
-    put(&mut list, &[no(1), yes(6), yes(8)])?;
-    put(&mut list, &[yes(1), no(6), yes(8)])?;
+    put(&mut list, &[Lit::positive(6), Lit::negative(7)])?;
+    put(&mut list, &[Lit::negative(6), Lit::positive(7)])?;
+    put(
+        &mut list,
+        &[Lit::positive(1), Lit::positive(6), Lit::negative(8)],
+    )?;
+    put(
+        &mut list,
+        &[Lit::negative(1), Lit::negative(6), Lit::negative(8)],
+    )?;
+    put(
+        &mut list,
+        &[Lit::negative(1), Lit::positive(6), Lit::positive(8)],
+    )?;
+    put(
+        &mut list,
+        &[Lit::positive(1), Lit::negative(6), Lit::positive(8)],
+    )?;
     Ok(list)
 }
 
-// The four clauses of two literals over two variables: no assignment makes all of them true.
+/// The four clauses of two literals over two variables: no assignment makes all of them true.
 fn all_of_two(alloc: Global) -> Result<ClauseList, Fail> {
     let mut list = ClauseList::new(alloc);
     let _ = (list.fresh(), list.fresh());
-    put(&mut list, &[yes(1), yes(2)])?;
-    put(&mut list, &[no(1), yes(2)])?;
-    put(&mut list, &[yes(1), no(2)])?;
-    put(&mut list, &[no(1), no(2)])?;
+    put(&mut list, &[Lit::positive(1), Lit::positive(2)])?;
+    put(&mut list, &[Lit::negative(1), Lit::positive(2)])?;
+    put(&mut list, &[Lit::positive(1), Lit::negative(2)])?;
+    put(&mut list, &[Lit::negative(1), Lit::negative(2)])?;
     Ok(list)
 }
 
-// Whether the number is of a step of this kind with so many literals.
+/// Whether the number is of a step of this kind with so many literals.
 fn is_step(log: &Derivations, number: u64, kind: StepKind, width: usize) -> bool {
     log.main_len() <= number
         && number < log.known().len()
@@ -94,7 +88,7 @@ fn is_step(log: &Derivations, number: u64, kind: StepKind, width: usize) -> bool
         && log.known().clause(number).len() == width
 }
 
-// No clauses over so many variables, at most 1000.
+/// No clauses over so many variables, at most 1000.
 fn with_variables(alloc: Global, count: u32) -> ClauseList {
     let mut list = ClauseList::new(alloc);
     for _ in 0..count {
@@ -105,7 +99,7 @@ fn with_variables(alloc: Global, count: u32) -> ClauseList {
     list
 }
 
-// Whether the step of a number follows from the clauses before it.
+/// Whether the step of a number follows from the clauses before it.
 fn is_accepted(
     alloc: Global,
     log: &Derivations,
@@ -122,7 +116,7 @@ fn is_accepted(
     Ok(check_step(alloc, before, &step).is_ok())
 }
 
-// Whether each step of the log follows from the clauses before it.
+/// Whether each step of the log follows from the clauses before it.
 fn are_accepted(alloc: Global, log: &Derivations) -> Result<bool, Fail> {
     let known = log.known();
     let mut before = with_variables(alloc, known.vars());
@@ -135,7 +129,7 @@ fn are_accepted(alloc: Global, log: &Derivations) -> Result<bool, Fail> {
     Ok(true)
 }
 
-// The number of the step that refutes the assumptions, if its clause does.
+/// The number of the step that refutes the assumptions, if its clause does.
 fn refuting_step(solver: &Solver<Scan>, reply: &Reply, assumptions: &[Lit]) -> Option<u64> {
     let Reply::Refuted(number) = reply else {
         return None;
@@ -148,11 +142,11 @@ fn refuting_step(solver: &Solver<Scan>, reply: &Reply, assumptions: &[Lit]) -> O
     }
 }
 
-// The first variable's value in what is found where the third is true.
+/// The first variable's value in what is found where the third is true.
 fn first_under_third(solver: &mut Solver<Scan>) -> Result<Option<bool>, Fail>
     requires eight { solver.old.log.vars ≡ 8 }
 {
-    match solver.ask(&[yes(3)], 10)? {
+    match solver.ask(&[Lit::positive(3)], 10)? {
         Reply::Found(values) => Ok(Some(values.value(1))),
         _ => Ok(None),
     }
@@ -162,7 +156,7 @@ fn first_under_third(solver: &mut Solver<Scan>) -> Result<Option<bool>, Fail>
 fn assumptions_are_refuted_by_their_negations(rt: HostRuntime) -> Result<(), Fail> {
     let alloc = rt.alloc();
     let mut solver: Solver<Scan> = Solver::new(alloc, fourteen_clauses(alloc)?)?;
-    let assumptions = [no(1), yes(7), no(8)];
+    let assumptions = [Lit::negative(1), Lit::positive(7), Lit::negative(8)];
     let reply = solver.ask(&assumptions, 10)?;
     assert!(rt; refuting_step(&solver, &reply, &assumptions).is_some());
     assert!(rt; are_accepted(alloc, solver.derivations())?);
@@ -199,7 +193,7 @@ fn what_is_never_true_is_refuted_by_the_empty_clause(rt: HostRuntime) -> Result<
     Ok(())
 }
 
-// Whether step 1 has no link and begins at clause 0.
+/// Whether step 1 has no link and begins at clause 0.
 fn is_first_copied(alloc: Global, log: &Derivations) -> Result<bool, Fail> {
     if 1 < log.main_len() || log.known().len() <= 1 {
         return Ok(false);

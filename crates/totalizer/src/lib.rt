@@ -1,5 +1,5 @@
-//! Unary counters as clauses, after the totalizer of Bailleux and Boufkhad (2003): sums of counters, and the
-//! disjunction of variables.
+//! Unary counters as clauses, after the totalizer of Bailleux and Boufkhad (2003): sums of
+//! counters, and the disjunction of variables.
 #![tactic(auto)]
 
 mod disjunction;

@@ -1,7 +1,7 @@
 // What the blocks of clauses share.
 
 ghost use Rattle.std.specs.Prelude.{◌≡◌, [], ◌∷◌, ◌++◌, OnOk, OnErr};
-ghost use Rattle.clause_store.specs.Lits.{positive_lit, sorted_clause, InRange};
+ghost use Rattle.clause_store.specs.Lits.{sorted_clause, InRange};
 
 use clause_store::{ClauseList, Lit};
 use edge::NoMemory;

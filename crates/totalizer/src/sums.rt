@@ -1,11 +1,12 @@
 // Sums of counters.
 
-ghost use Rattle.std.specs.Prelude.{◌≡◌, ℕ, ◌+◌, ◌*◌, ◌<◌, ◌≤◌, ◌^◌, [], ◌∷◌, ◌++◌, IfOk, OnOk, OnErr, length, map};
+ghost use Rattle.std.specs.Prelude.{◌≡◌, ◌+◌, ◌≤◌, ◌++◌, IfOk, OnOk, OnErr, length, map};
 ghost use Rattle.clause_store.specs.Lits.{sorted_clause};
 ghost use Rattle.clause_store.specs.Grew.{Grew};
 ghost use Rattle.clause_store.specs.Limits.{var_limit};
 ghost use Rattle.totalizer.specs.Counter.{AreVarsWithin, AllVarsWithin};
-ghost use Rattle.totalizer.specs.Plus.{up_clauses, down_clauses, pair_clauses, row_clauses, plus_clauses, plus_due, IsSum};
+ghost use Rattle.totalizer.specs.Plus.{up_clauses, down_clauses, pair_clauses, row_clauses};
+ghost use Rattle.totalizer.specs.Plus.{plus_clauses, plus_due, IsSum};
 ghost use Rattle.totalizer.specs.Total.{total_due, IsTotal};
 
 use crate::literals::add;
@@ -14,7 +15,7 @@ use clause_store::{ClauseList, Lit};
 use edge::NoMemory;
 use std::alloc::Global;
 
-// The clause that the sum is large, at one pair of numbers.
+/// The clause that the sum is large, at one pair of numbers.
 fn add_up(
     clauses: &mut ClauseList,
     left: &[u32],
@@ -30,7 +31,8 @@ fn add_up(
     requires room { base + length left.now + length right.now ≤ clauses.old.vars }
     requires few { clauses.old.vars ≤ var_limit }
     ensures vars { clauses.new.vars ≡ clauses.old.vars }
-    ensures list { OnOk result (clauses.new.list ≡ clauses.old.list ++ map sorted_clause (up_clauses left.now right.now base i j)) }
+    ensures list { OnOk result (clauses.new.list ≡ clauses.old.list ++ map sorted_clause
+        (up_clauses left.now right.now base i j)) }
     ensures err { OnErr result (clauses.new.list ≡ clauses.old.list) }
 {
     if i == 0 {
@@ -50,7 +52,7 @@ fn add_up(
     add(clauses, &[first, Lit::negative(right[j - 1]), sum])
 }
 
-// The clause that the sum is small.
+/// The clause that the sum is small.
 fn add_down(
     clauses: &mut ClauseList,
     left: &[u32],
@@ -66,7 +68,8 @@ fn add_down(
     requires room { base + length left.now + length right.now ≤ clauses.old.vars }
     requires few { clauses.old.vars ≤ var_limit }
     ensures vars { clauses.new.vars ≡ clauses.old.vars }
-    ensures list { OnOk result (clauses.new.list ≡ clauses.old.list ++ map sorted_clause (down_clauses left.now right.now base i j)) }
+    ensures list { OnOk result (clauses.new.list ≡ clauses.old.list ++ map sorted_clause
+        (down_clauses left.now right.now base i j)) }
     ensures err { OnErr result (clauses.new.list ≡ clauses.old.list) }
 {
     if i == left.len() {
@@ -84,7 +87,7 @@ fn add_down(
     add(clauses, &[first, Lit::positive(right[j]), sum])
 }
 
-// Both clauses at one pair of numbers.
+/// Both clauses at one pair of numbers.
 fn add_pair(
     clauses: &mut ClauseList,
     left: &[u32],
@@ -100,14 +103,16 @@ fn add_pair(
     requires room { base + length left.now + length right.now ≤ clauses.old.vars }
     requires few { clauses.old.vars ≤ var_limit }
     ensures vars { clauses.new.vars ≡ clauses.old.vars }
-    ensures list { OnOk result (clauses.new.list ≡ clauses.old.list ++ map sorted_clause (pair_clauses left.now right.now base i j)) }
-    ensures err { OnErr result (Grew clauses.old clauses.new (pair_clauses left.now right.now base i j)) }
+    ensures list { OnOk result (clauses.new.list ≡ clauses.old.list ++ map sorted_clause
+        (pair_clauses left.now right.now base i j)) }
+    ensures err { OnErr result (Grew clauses.old clauses.new
+        (pair_clauses left.now right.now base i j)) }
 {
     add_up(clauses, left, right, base, i, j)?;
     add_down(clauses, left, right, base, i, j)
 }
 
-// The clauses of one number of the left.
+/// The clauses of one number of the left.
 fn add_row(
     clauses: &mut ClauseList,
     left: &[u32],
@@ -121,8 +126,10 @@ fn add_row(
     requires room { base + length left.now + length right.now ≤ clauses.old.vars }
     requires few { clauses.old.vars ≤ var_limit }
     ensures vars { clauses.new.vars ≡ clauses.old.vars }
-    ensures list { OnOk result (clauses.new.list ≡ clauses.old.list ++ map sorted_clause (row_clauses left.now right.now base i)) }
-    ensures err { OnErr result (Grew clauses.old clauses.new (row_clauses left.now right.now base i)) }
+    ensures list { OnOk result (clauses.new.list ≡ clauses.old.list ++ map sorted_clause
+        (row_clauses left.now right.now base i)) }
+    ensures err { OnErr result (Grew clauses.old clauses.new
+        (row_clauses left.now right.now base i)) }
 {
     for j in 0..right.len() + 1 {
         add_pair(clauses, left, right, base, i, j)?;
@@ -130,7 +137,7 @@ fn add_row(
     Ok(())
 }
 
-// All clauses of a sum.
+/// All clauses of a sum.
 fn add_rows(
     clauses: &mut ClauseList,
     left: &[u32],
@@ -142,8 +149,10 @@ fn add_rows(
     requires room { base + length left.now + length right.now ≤ clauses.old.vars }
     requires few { clauses.old.vars ≤ var_limit }
     ensures vars { clauses.new.vars ≡ clauses.old.vars }
-    ensures list { OnOk result (clauses.new.list ≡ clauses.old.list ++ map sorted_clause (plus_clauses left.now right.now base)) }
-    ensures err { OnErr result (Grew clauses.old clauses.new (plus_clauses left.now right.now base)) }
+    ensures list { OnOk result (clauses.new.list ≡ clauses.old.list ++ map sorted_clause
+        (plus_clauses left.now right.now base)) }
+    ensures err { OnErr result (Grew clauses.old clauses.new
+        (plus_clauses left.now right.now base)) }
 {
     for i in 0..left.len() + 1 {
         add_row(clauses, left, right, base, i)?;
@@ -151,9 +160,9 @@ fn add_rows(
     Ok(())
 }
 
-/// The sum of two counters: appends clauses over as many fresh variables as both have outputs, and answers the
-/// counter of these.
-/// After `NoMemory` the list has grown by some variables and some of these clauses, from the first on.
+/// The sum of two counters: appends clauses over as many fresh variables as both have outputs, and
+/// answers the counter of these. After `NoMemory` the list has grown by some variables and some of
+/// these clauses, from the first on.
 pub fn plus(
     alloc: Global,
     clauses: &mut ClauseList,
@@ -164,12 +173,16 @@ pub fn plus(
     requires right_in { AreVarsWithin clauses.old.vars right.now }
     requires room { (plus_due clauses.old.vars left.now right.now).vars ≤ var_limit }
     ensures outputs { IfOk result (λ r. r ≡ (plus_due clauses.old.vars left.now right.now).outputs) }
-    ensures vars { OnOk result (clauses.new.vars ≡ (plus_due clauses.old.vars left.now right.now).vars) }
-    ensures list { OnOk result (clauses.new.list ≡ clauses.old.list ++ map sorted_clause (plus_due clauses.old.vars left.now right.now).clauses) }
-    ensures err { OnErr result (Grew clauses.old clauses.new (plus_due clauses.old.vars left.now right.now).clauses) }
+    ensures vars { OnOk result
+        (clauses.new.vars ≡ (plus_due clauses.old.vars left.now right.now).vars) }
+    ensures list { OnOk result (clauses.new.list ≡ clauses.old.list ++ map sorted_clause
+        (plus_due clauses.old.vars left.now right.now).clauses) }
+    ensures err { OnErr result (Grew clauses.old clauses.new
+        (plus_due clauses.old.vars left.now right.now).clauses) }
 
     // what the clauses mean
-    ensures sum { IsSum clauses.old.vars left.now right.now (plus_due clauses.old.vars left.now right.now) }
+    ensures sum { IsSum clauses.old.vars left.now right.now
+        (plus_due clauses.old.vars left.now right.now) }
 {
     let left = left.outputs();
     let right = right.outputs();
@@ -179,15 +192,17 @@ pub fn plus(
     Ok(Unary::from_outputs(outputs))
 }
 
-// The total, by halves.
+/// The total, by halves.
 fn total_of(alloc: Global, clauses: &mut ClauseList, parts: &[Unary]) -> Result<Unary, NoMemory>
     requires some { 1 ≤ length parts.now }
     requires parts_in { AllVarsWithin clauses.old.vars parts.now }
     requires room { (total_due clauses.old.vars parts.now).vars ≤ var_limit }
     ensures outputs { IfOk result (λ r. r ≡ (total_due clauses.old.vars parts.now).outputs) }
     ensures vars { OnOk result (clauses.new.vars ≡ (total_due clauses.old.vars parts.now).vars) }
-    ensures list { OnOk result (clauses.new.list ≡ clauses.old.list ++ map sorted_clause (total_due clauses.old.vars parts.now).clauses) }
-    ensures err { OnErr result (Grew clauses.old clauses.new (total_due clauses.old.vars parts.now).clauses) }
+    ensures list { OnOk result (clauses.new.list ≡ clauses.old.list ++ map sorted_clause
+        (total_due clauses.old.vars parts.now).clauses) }
+    ensures err { OnErr result (Grew clauses.old clauses.new
+        (total_due clauses.old.vars parts.now).clauses) }
 {
     if parts.len() == 1 {
         return parts[0].copy();
@@ -198,17 +213,19 @@ fn total_of(alloc: Global, clauses: &mut ClauseList, parts: &[Unary]) -> Result<
     plus(alloc, clauses, &left, &right)
 }
 
-/// The sum of counters: of one, the counter itself, and of more, the sum of the totals of the first half, rounded
-/// down, and of the rest. A part that stands twice counts twice. After `NoMemory` the list has grown by some
-/// variables and some of the clauses that are due, from the first on.
+/// The sum of counters: of one, the counter itself, and of more, the sum of the totals of the first
+/// half, rounded down, and of the rest. A part that stands twice counts twice. After `NoMemory` the
+/// list has grown by some variables and some of the clauses that are due, from the first on.
 pub fn total(alloc: Global, clauses: &mut ClauseList, parts: &[Unary]) -> Result<Unary, NoMemory>
     requires some { 1 ≤ length parts.now }
     requires parts_in { AllVarsWithin clauses.old.vars parts.now }
     requires room { (total_due clauses.old.vars parts.now).vars ≤ var_limit }
     ensures outputs { IfOk result (λ r. r ≡ (total_due clauses.old.vars parts.now).outputs) }
     ensures vars { OnOk result (clauses.new.vars ≡ (total_due clauses.old.vars parts.now).vars) }
-    ensures list { OnOk result (clauses.new.list ≡ clauses.old.list ++ map sorted_clause (total_due clauses.old.vars parts.now).clauses) }
-    ensures err { OnErr result (Grew clauses.old clauses.new (total_due clauses.old.vars parts.now).clauses) }
+    ensures list { OnOk result (clauses.new.list ≡ clauses.old.list ++ map sorted_clause
+        (total_due clauses.old.vars parts.now).clauses) }
+    ensures err { OnErr result (Grew clauses.old clauses.new
+        (total_due clauses.old.vars parts.now).clauses) }
 
     // what the clauses mean
     ensures total { IsTotal clauses.old.vars parts.now (total_due clauses.old.vars parts.now) }

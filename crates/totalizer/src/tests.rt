@@ -5,7 +5,7 @@ use clause_store::{ClauseList, Lit};
 use std::process::Abort;
 use std::test::Fail;
 
-// The clauses of the sum of variables 1 and 2.
+/// The clauses of the sum of variables 1 and 2.
 fn assert_sum_of_two(rt: &impl Abort, clauses: &ClauseList, sum: &Unary) {
     assert_eq!(rt; sum.outputs(), [3, 4].as_slice());
     assert_eq!(rt; clauses.vars(), 4);

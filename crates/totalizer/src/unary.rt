@@ -1,6 +1,7 @@
 // A counter as a list of variables.
 
-ghost use Rattle.std.specs.Prelude.{◌≡◌, ℕ, suc, ◌+◌, ◌-◌, ◌<◌, ◌≤◌, ◌^◌, Bool, [], ◌∷◌, IfOk, length, All, slice_index, if◌then◌else◌};
+ghost use Rattle.std.specs.Prelude.{◌≡◌, ℕ, ◌-◌, ◌≤◌, Bool, [], ◌∷◌, IfOk, length, All};
+ghost use Rattle.std.specs.Prelude.{slice_index, if◌then◌else◌};
 ghost use Rattle.clause_store.specs.Lits.{positive_lit};
 ghost use Rattle.clause_store.specs.Limits.{var_limit};
 ghost use Rattle.totalizer.specs.Counter.{count_of, IsUnary, leaves};
@@ -10,7 +11,8 @@ use edge::NoMemory;
 use std::alloc::Global;
 use std::marker::Model;
 
-/// A counter: a list of variables, its outputs. Where the true outputs come first, its value is their number.
+/// A counter: a list of variables, its outputs. Where the true outputs come first, its value is
+/// their number.
 #[derive(Drop)]
 pub struct Unary {
     outputs: Vec<u32>,
@@ -24,7 +26,8 @@ impl Model for Unary {
 
     ghost view = { λ s. s.outputs.items };
 
-    ghost invariant = { λ s. (1 ≤ length s.outputs.items) × (length s.outputs.items ≤ var_limit) × All (λ v. 1 ≤ v) s.outputs.items };
+    ghost invariant = { λ s. (1 ≤ length s.outputs.items) × (length s.outputs.items ≤ var_limit) ×
+        All (λ v. 1 ≤ v) s.outputs.items };
 }
 
 impl Unary {
@@ -86,8 +89,8 @@ impl Unary {
     }
 }
 
-/// The counter of one variable: its value is 1 where the variable is true, and 0 elsewhere. `NoMemory` for want
-/// of memory.
+/// The counter of one variable: its value is 1 where the variable is true, and 0 elsewhere.
+/// `NoMemory` for want of memory.
 pub fn leaf(alloc: Global, var: u32) -> Result<Unary, NoMemory>
     requires { 1 ≤ var }
     ensures outputs { IfOk result (λ r. r ≡ var ∷ []) }

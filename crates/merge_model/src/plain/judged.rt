@@ -21,8 +21,10 @@ pub fn merged<D: Distance, A: Aggregator>(
     problem: &Problem,
     walk: &Walk,
 ) -> Result<Answer, NoMemory>
-    requires { IsWalk (D.dist distance.now) (A.rank aggregator.now) (profile_of problem.now) walk.now }
-    ensures { IfOk result (λ answer. IsRight (D.dist distance.now) (A.rank aggregator.now) problem.now answer) }
+    requires { IsWalk (D.dist distance.now) (A.rank aggregator.now)
+        (profile_of problem.now) walk.now }
+    ensures { IfOk result
+        (λ answer. IsRight (D.dist distance.now) (A.rank aggregator.now) problem.now answer) }
 {
     let best = shown(alloc, distance, walk.candidates[walk.best], &walk.tables)?;
     let measure = measure(alloc, aggregator, walk.fulls[walk.best].as_slice())?;
@@ -42,8 +44,11 @@ fn verdicts<D: Distance, A: Aggregator>(
     problem: &Problem,
     walk: &Walk,
 ) -> Result<Vec<Verdict>, NoMemory>
-    requires { IsWalk (D.dist distance.now) (A.rank aggregator.now) (profile_of problem.now) walk.now }
-    ensures { IfOk result (λ verdicts. AllZip (IsVerdict (D.dist distance.now) (A.rank aggregator.now) (profile_of problem.now))
+    requires { IsWalk (D.dist distance.now) (A.rank aggregator.now)
+        (profile_of problem.now) walk.now }
+    ensures { IfOk result
+        (λ verdicts. AllZip (IsVerdict (D.dist distance.now) (A.rank aggregator.now)
+        (profile_of problem.now))
         problem.now.asks verdicts.items) }
 {
     let mut verdicts = Vec::new(alloc);
@@ -63,9 +68,12 @@ fn verdict<D: Distance, A: Aggregator>(
     walk: &Walk,
     ask: &Formula,
 ) -> Result<Verdict, NoMemory>
-    requires walk { IsWalk (D.dist distance.now) (A.rank aggregator.now) (profile_of problem.now) walk.now }
+    requires walk { IsWalk (D.dist distance.now) (A.rank aggregator.now)
+        (profile_of problem.now) walk.now }
     requires width { width_of ask.now ≤ length problem.now.atoms }
-    ensures { IfOk result (λ verdict. IsVerdict (D.dist distance.now) (A.rank aggregator.now) (profile_of problem.now) ask.now verdict) }
+    ensures { IfOk result
+        (λ verdict. IsVerdict (D.dist distance.now) (A.rank aggregator.now)
+        (profile_of problem.now) ask.now verdict) }
 {
     match refuting_place(aggregator, &walk.candidates, &walk.fulls, walk.best, ask) {
         None => Ok(Verdict::Yes),
@@ -85,8 +93,10 @@ fn shown<D: Distance>(
 ) -> Result<Shown, NoMemory>
     requires { All (IsOver (length model)) tables.now }
     ensures model { IfOk result (λ shown. shown.model ≡ model) }
-    ensures vector { IfOk result (λ shown. shown.vector ≡ distances_of (D.dist distance.now) tables.now model) }
-    ensures nearest { IfOk result (λ shown. shown.nearest ≡ map (nearest_of (D.dist distance.now) model) tables.now) }
+    ensures vector { IfOk result
+        (λ shown. shown.vector ≡ distances_of (D.dist distance.now) tables.now model) }
+    ensures nearest { IfOk result
+        (λ shown. shown.nearest ≡ map (nearest_of (D.dist distance.now) model) tables.now) }
 {
     let nearest = nearest_models(alloc, distance, model, tables)?;
     let vector = distances(alloc, distance, model, &nearest)?;

@@ -8,7 +8,8 @@ use std::alloc::Global;
 
 /// Whether there is a candidate, and a model in each list.
 pub fn all_have_models(candidates: &[Valuation], tables: &[Sequence<Valuation>]) -> bool
-    ensures { IsTrue result ↔ (1 ≤ length candidates.now) × All (λ models. 1 ≤ length models) tables.now }
+    ensures { IsTrue result ↔ (1 ≤ length candidates.now)
+        × All (λ models. 1 ≤ length models) tables.now }
 {
     !candidates.is_empty() && all_some(tables)
 }

@@ -31,7 +31,8 @@ pub fn nearest_models<D: Distance>(
     tables: &[Sequence<Valuation>],
 ) -> Result<Vec<Valuation>, NoMemory>
     requires { All (IsOver (length from)) tables.now }
-    ensures { IfOk result (λ models. models.items ≡ map (nearest_of (D.dist distance.now) from) tables.now) }
+    ensures { IfOk result
+        (λ models. models.items ≡ map (nearest_of (D.dist distance.now) from) tables.now) }
 {
     let mut models = Vec::new(alloc);
     for table in tables {
@@ -48,7 +49,8 @@ pub fn distances<D: Distance>(
     models: &[Valuation],
 ) -> Result<Vec<u32>, NoMemory>
     requires { All (λ w. length w ≡ length from) models.now }
-    ensures { IfOk result (λ distances. distances.items ≡ map (D.dist distance.now from) models.now) }
+    ensures { IfOk result
+        (λ distances. distances.items ≡ map (D.dist distance.now from) models.now) }
 {
     let mut distances = Vec::new(alloc);
     for model in models {
@@ -65,7 +67,8 @@ pub fn vector<D: Distance>(
     tables: &[Sequence<Valuation>],
 ) -> Result<Vec<u32>, NoMemory>
     requires { All (IsOver (length from)) tables.now }
-    ensures { IfOk result (λ vector. vector.items ≡ distances_of (D.dist distance.now) tables.now from) }
+    ensures { IfOk result
+        (λ vector. vector.items ≡ distances_of (D.dist distance.now) tables.now from) }
 {
     let models = nearest_models(alloc, distance, from, tables)?;
     distances(alloc, distance, from, &models)

@@ -1,4 +1,5 @@
-ghost use Rattle.std.specs.Prelude.{◌≡◌, ℕ, ◌+◌, ◌<◌, ◌≤◌, ◌↔◌, IsTrue, length, map, All, IfOk, MatchOption};
+ghost use Rattle.std.specs.Prelude.{◌≡◌, ℕ, ◌+◌, ◌<◌, ◌≤◌, ◌↔◌, IsTrue, length, map, All, IfOk};
+ghost use Rattle.std.specs.Prelude.{MatchOption};
 ghost use Rattle.formulas.specs.Formulas.{width_of};
 ghost use Rattle.merge_model.specs.Merging.{repeated};
 ghost use Rattle.merge_model.specs.Plain.{IsOver, AreComparable, IsBestOf, Refutes, distances_of};
@@ -36,7 +37,8 @@ pub fn full_vectors<D: Distance>(
 ) -> Result<Vec<Sequence<u32>>, NoMemory>
     requires aligned { length tables.now ≡ length agents.now }
     requires over { All (λ v. All (IsOver (length v)) tables.now) candidates.now }
-    ensures { IfOk result (λ fulls. fulls.items ≡ map (λ v. repeated (map (λ agent. agent.times) agents.now)
+    ensures { IfOk result
+        (λ fulls. fulls.items ≡ map (λ v. repeated (map (λ agent. agent.times) agents.now)
         (distances_of (D.dist distance.now) tables.now v)) candidates.now) }
 {
     let mut fulls = Vec::new(alloc);
@@ -114,7 +116,8 @@ fn refutes<A: Aggregator>(
     requires within { best < length fulls.now }
     requires width { All (λ v. width_of ask.now ≤ length v) candidates.now }
     requires place { place < length candidates.now }
-    ensures { IsTrue result ↔ Refutes (A.rank aggregator.now) candidates.now fulls.now best ask.now place }
+    ensures { IsTrue result
+        ↔ Refutes (A.rank aggregator.now) candidates.now fulls.now best ask.now place }
 {
     let order = aggregator.compare(fulls[place].as_slice(), fulls[best].as_slice());
     order.is_le() && !ask.holds(&candidates[place])

@@ -1,4 +1,5 @@
-ghost use Rattle.std.specs.Prelude.{◌≡◌, ◌≤◌, ◌<◌, ◌++◌, ◌∷◌, [], length, map, filter, All, IfOk, OnOk};
+ghost use Rattle.std.specs.Prelude.{◌≡◌, ◌≤◌, ◌<◌, ◌++◌, ◌∷◌, [], length, map, filter, All, IfOk};
+ghost use Rattle.std.specs.Prelude.{OnOk};
 ghost use Rattle.formulas.specs.Formulas.{holds, width_of};
 ghost use Rattle.formulas.specs.Limits.{valuation_limit};
 ghost use Rattle.merge_model.specs.Merging.{models_of};
@@ -29,7 +30,8 @@ fn push_model(
     valuation: Valuation,
 ) -> Result<(), NoMemory>
     requires { width_of formula.now ≤ length valuation }
-    ensures { OnOk result (models.new.items ≡ models.old.items ++ filter (holds formula.now) (valuation ∷ [])) }
+    ensures { OnOk result
+        (models.new.items ≡ models.old.items ++ filter (holds formula.now) (valuation ∷ [])) }
 {
     if formula.holds(&valuation) {
         models.push(valuation)?;
@@ -45,7 +47,8 @@ pub fn base_models(
 ) -> Result<Vec<Sequence<Valuation>>, NoMemory>
     requires few { atoms < valuation_limit }
     requires within { All (λ agent. width_of agent.base ≤ atoms) agents.now }
-    ensures { IfOk result (λ tables. tables.items ≡ map (models_of atoms) (map (λ agent. agent.base) agents.now)) }
+    ensures { IfOk result
+        (λ tables. tables.items ≡ map (models_of atoms) (map (λ agent. agent.base) agents.now)) }
 {
     let mut tables = Vec::new(alloc);
     for agent in agents {

@@ -32,11 +32,15 @@ impl Walk {
         candidates: Vec<Valuation>,
         tables: Vec<Sequence<Valuation>>,
     ) -> Result<Walk, NoMemory>
-        requires candidates { candidates.items ≡ models_of (length problem.now.atoms) problem.now.constraint }
-        requires tables { tables.items ≡ map (models_of (length problem.now.atoms)) (map (λ agent. agent.base) problem.now.agents) }
+        requires candidates { candidates.items
+            ≡ models_of (length problem.now.atoms) problem.now.constraint }
+        requires tables { tables.items ≡ map (models_of (length problem.now.atoms))
+            (map (λ agent. agent.base) problem.now.agents) }
         requires some_candidate { 1 ≤ length candidates.items }
         requires some_models { All (λ models. 1 ≤ length models) tables.items }
-        ensures { IfOk result (λ walk. IsWalk (D.dist distance.now) (A.rank aggregator.now) (profile_of problem.now) walk) }
+        ensures { IfOk result
+            (λ walk. IsWalk (D.dist distance.now) (A.rank aggregator.now)
+            (profile_of problem.now) walk) }
     {
         let fulls = full_vectors(
             alloc,

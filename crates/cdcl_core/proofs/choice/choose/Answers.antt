@@ -4,7 +4,7 @@ use Rattle.std.proofs.lemmas.List.{get_or_default}
 use Rattle.clause_store.specs.declared.lit.Lit.{Lit}
 use Rattle.watch_lists.specs.declared.entry.Entry.{Entry}
 use Rattle.watch_lists.specs.Trace.{value_of}
-use Rattle.cdcl_core.specs.Choices.{AreTrue}
+use Rattle.cdcl_core.specs.Choices.{AreTrueBefore}
 use Rattle.cdcl_core.proofs.Levels.{no_lit}
 use Rattle.cdcl_core.proofs.Askings.{true_more}
 use Rattle.cdcl_core.proofs.choice.choose.Goals as goal
@@ -19,7 +19,7 @@ past-preserved c =
     }
 
 -- all are true where none is left
-none_left : (es : List Entry) (asked : List Lit) (place : ℕ) → length asked ≤ place → AreTrue place asked es → All (λ (l : Lit). value_of es l ≡ Some true) asked
+none_left : (es : List Entry) (asked : List Lit) (place : ℕ) → length asked ≤ place → AreTrueBefore place asked es → All (λ (l : Lit). value_of es l ≡ Some true) asked
 none_left es asked place h a k d lt = a k d (omega arith) lt
 
 pub returns-in-Some-clause-chosen : goal.returns-in-Some-clause-chosen

@@ -1,7 +1,7 @@
 use Rattle.std.proofs.Common.{◌≡◌, ◌≤◌, ◌-◌, length}
 use Rattle.solver_laws.specs.Ready.{IsReady}
 use Rattle.cdcl_core.specs.Asking.{IsAsking}
-use Rattle.cdcl_core.specs.Choices.{AreTrue}
+use Rattle.cdcl_core.specs.Choices.{AreTrueBefore}
 use Rattle.cdcl_core.proofs.engine.descend.Given as goal
 
 abbrev pub invariant-down : goal.invariant-down
@@ -11,7 +11,7 @@ invariant-down g l = record {
   within : length l.trail.entries ≤ l.trail.vars;
   vars : l.trail.vars ≡ l.fn.trail.vars;
   on : l.assumed ≤ l.place;
-  before : AreTrue l.place l.assumptions l.trail.entries;
+  before : AreTrueBefore l.place l.assumptions l.trail.entries;
 }
 
 abbrev pub decreases-down : goal.decreases-down

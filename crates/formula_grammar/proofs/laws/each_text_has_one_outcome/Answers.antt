@@ -1,4 +1,4 @@
-use Rattle.std.proofs.Common.{◌≡◌, ◌≢◌, ◌≤◌, ℕ, List, true, false, refl, sym, ◌∙◌, subst, arith, inl, inr}
+use Rattle.std.proofs.Common.{◌≡◌, ◌≢◌, ℕ, List, true, false, refl, sym, ◌∙◌, subst}
 use Rattle.formulas.specs.declared.formula.Formula.{Formula}
 use Rattle.line_tokens.specs.Lexemes.{lexemes_of}
 use Rattle.formula_grammar.specs.declared.read.FormulaStop.{FormulaStop}

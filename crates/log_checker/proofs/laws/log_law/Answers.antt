@@ -1,4 +1,4 @@
-use Rattle.log_checker.proofs.Sound.{log_sound, log_refutes}
+use Rattle.derivation_log.proofs.Sound.{log_sound, log_refutes}
 use Rattle.log_checker.proofs.laws.log_law.Goals as goal
 
 pub returns-clause-log : goal.returns-clause-log

@@ -1,6 +1,6 @@
 use Rattle.std.proofs.Common.{drop}
 use Rattle.std.specs.Prelude.{◌↔◌}
-use Rattle.log_checker.specs.Refutes.{Refutes}
+use Rattle.clause_store.specs.Refutes.{Refutes}
 use Rattle.log_checker.proofs.refuting.refutes.Given as goal
 
 abbrev pub invariant-loop-lit : goal.invariant-loop-lit

@@ -1,4 +1,4 @@
-use Rattle.std.proofs.Common.{◌≡◌, map, drop, nat_lt, length}
+use Rattle.std.proofs.Common.{◌≡◌, map, drop}
 use Rattle.std.specs.List.{list_any}
 use Rattle.problem_reading.specs.Drafts.{is_long}
 use Rattle.line_tokens.specs.Lexemes.{lexeme_of}

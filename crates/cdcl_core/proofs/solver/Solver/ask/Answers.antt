@@ -8,7 +8,7 @@ use Rattle.clause_store.specs.declared.lit.Lit.{Lit}
 use Rattle.derivation_log.specs.Logs.{learned_of, is_learned, clauses_of, IsSound}
 use Rattle.derivation_log.proofs.Steps.{clauses_append}
 use Rattle.clause_store.specs.Truth.{AreTrue}
-use Rattle.log_checker.proofs.Sound.{log_refutes}
+use Rattle.derivation_log.proofs.Sound.{log_refutes}
 use Rattle.derivation_log.specs.declared.step.Step.{Step}
 use Rattle.solver_laws.specs.Ready.{IsLog}
 use Rattle.solver_laws.proofs.Few.{few_learned, apart}

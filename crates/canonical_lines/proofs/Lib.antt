@@ -1,2 +1,0 @@
-pub mod LineBytes
-pub mod LineForms

@@ -1,8 +1,0 @@
-use Rattle.canonical_lines.proofs.LineBytes.{no_comments, text_lines}
-use Rattle.canonical_lines.proofs.canonical_text_has_its_lines.Goals as goal
-
-pub returns-clause-lines : goal.returns-clause-lines
-returns-clause-lines c = text_lines c.args._problem.now
-
-pub returns-clause-contents : goal.returns-clause-contents
-returns-clause-contents c = no_comments c.args._problem.now

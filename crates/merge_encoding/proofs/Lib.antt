@@ -1,0 +1,13 @@
+pub mod Defined
+pub mod Copied
+pub mod OneAssignment
+pub mod Counts
+pub mod FrameLaws
+pub mod Ranges
+pub mod Same
+pub mod Claiming
+pub mod Better
+pub mod Limits
+pub mod Steps
+pub mod Encoded
+pub mod Signs

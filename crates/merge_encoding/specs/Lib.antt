@@ -1,0 +1,5 @@
+pub mod Limits
+pub mod MainDues
+pub mod Frames
+pub mod Claims
+pub mod Assumptions
