@@ -29,10 +29,6 @@ pub reading_row : (command : Command) (now : Option (List ℕ)) (read : List ℕ
     → CommandAnswers command now read status text → ReadAnswers (limit_of command) (TextAnswers command) now read status text
 reading_row (Merge d a) now read s text reads row = row
 
-pub row_of_reading : (command : Command) (now : Option (List ℕ)) (read : List ℕ) (status : ℕ) (text : List ℕ) → Reads command
-    → ReadAnswers (limit_of command) (TextAnswers command) now read status text → CommandAnswers command now read status text
-row_of_reading (Merge d a) now read s text reads row = row
-
 pub text_row : (command : Command) (read : List ℕ) (status : ℕ) (text : List ℕ) → ReadsProblem command
     → TextAnswers command read status text → ProblemTextAnswers (ProblemAnswers command) read status text
 text_row (Merge d a) read s text reads row = row

@@ -68,7 +68,6 @@ lacking_row d a p s text (inconsistent few status reports) eight = reports
 -- what a whole run says
 module _ (words : List (List ℕ)) (before now : Option (List ℕ)) (room_before room_now status : ℕ) (text : List ℕ)
     (answered : Answered (Answers words) before now room_before room_now status text) where
-
   given : length answered.read ≡ room_before - room_now
   given = omega (arith, answered.gave.count)
 

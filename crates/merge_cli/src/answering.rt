@@ -27,7 +27,8 @@ pub fn text_reply(alloc: Global, command: Command, bytes: &[u8]) -> Result<Reply
 // What a command answers to a problem text.
 fn problem_text_reply(alloc: Global, command: Command, bytes: &[u8]) -> Result<Reply, NoMemory>
     requires { ReadsProblem command }
-    ensures { IfOk result (λ reply. ProblemTextAnswers (ProblemAnswers command) bytes.now reply.status reply.text.items) }
+    ensures { IfOk result (λ reply. ProblemTextAnswers (ProblemAnswers command) bytes.now
+        reply.status reply.text.items) }
 {
     match read_problem(alloc, bytes) {
         Ok(problem) => problem_reply(alloc, command, &problem),
@@ -38,7 +39,8 @@ fn problem_text_reply(alloc: Global, command: Command, bytes: &[u8]) -> Result<R
 // What a command answers to a problem.
 fn problem_reply(alloc: Global, command: Command, problem: &Problem) -> Result<Reply, NoMemory>
     requires { ReadsProblem command }
-    ensures { IfOk result (λ reply. ProblemAnswers command problem.now reply.status reply.text.items) }
+    ensures { IfOk result (λ reply. ProblemAnswers command problem.now
+        reply.status reply.text.items) }
 {
     let (distance, aggregator) = operators_of(command);
     merge_reply(alloc, distance, aggregator, problem)

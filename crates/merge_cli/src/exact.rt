@@ -36,8 +36,8 @@ pub fn too_long_is_exact()
 {}
 
 /// A problem whose constraint or one of whose bases has no model is never merged, and only such a
-/// problem is said to lack a model. `run` says so of bytes that are told; this is said of the table,
-/// and so also of what was read from a source that tells nothing.
+/// problem is said to lack a model. `run` says so of bytes that are told; this is said of the
+/// table, and so also of what was read from a source that tells nothing.
 pub fn lacking_is_exact()
     ensures only { (command : Command) (problem : Problem) (status : ℕ) (text : List ℕ)
         → ProblemAnswers command problem status text → status ≡ 8

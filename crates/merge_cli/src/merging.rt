@@ -1,8 +1,8 @@
 ghost use Rattle.std.specs.Prelude.{◌≡◌, IfOk};
 ghost use Rattle.merge_cli.specs.Merge.{MergeAnswers, status_of};
 
-use crate::report::write_answer;
 use crate::reply::{Reply, says};
+use crate::report::write_answer;
 use crate::status::{ANSWERED, GAVE_UP, LACKS_MODEL, NOT_BUILT};
 use edge::NoMemory;
 use merge_model::{AggregatorName, Answer, DistanceName, Problem, merge_named};
@@ -21,7 +21,8 @@ pub fn merge_reply(
     aggregator: AggregatorName,
     problem: &Problem,
 ) -> Result<Reply, NoMemory>
-    ensures { IfOk result (λ reply. MergeAnswers distance aggregator problem.now reply.status reply.text.items) }
+    ensures { IfOk result (λ reply. MergeAnswers distance aggregator problem.now
+        reply.status reply.text.items) }
 {
     if problem.atoms.len() > BUILT_LIMIT {
         return says(alloc, NOT_BUILT, b"refused: not built\n");

@@ -14,14 +14,12 @@ use std::alloc::Global;
 
 /// Reads the source to its end, if it has no more than the command takes, and answers its text.
 /// After a stop the source has lost the bytes that were read.
-pub fn read_reply<S: Source>(
-    alloc: Global,
-    command: Command,
-    source: &mut S,
-) -> Result<Reply, Stop>
+pub fn read_reply<S: Source>(alloc: Global, command: Command, source: &mut S) -> Result<Reply, Stop>
     requires { Reads command }
-    ensures ok { IfOk result (λ reply. Answered (ReadAnswers (limit_of command) (TextAnswers command))
-        (S.left source.old) (S.left source.new) (S.room source.old) (S.room source.new) reply.status reply.text.items) }
+    ensures ok { IfOk result (λ reply.
+        Answered (ReadAnswers (limit_of command) (TextAnswers command))
+        (S.left source.old) (S.left source.new) (S.room source.old) (S.room source.new)
+        reply.status reply.text.items) }
     ensures err { OnErr result ((bytes : List ℕ) × Gave (S.left source.old) (S.left source.new)
         (S.room source.old) (S.room source.new) bytes) }
     ensures failed { IsErrOf result Stop.Failed → Rose (S.faults source.old) (S.faults source.new) }

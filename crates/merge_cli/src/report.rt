@@ -1,11 +1,12 @@
 // The text of a report. Each writer appends its text at once; on `NoMemory` what was appended is a
 // part of the text from its start.
-ghost use Rattle.std.specs.Prelude.{◌∷◌, ◌++◌, [], map, codes, decimal};
+ghost use Rattle.std.specs.Prelude.{◌∷◌, ◌++◌, map, codes, decimal};
 ghost use Rattle.formula_text.specs.ValuationWords.{valuation_word};
 ghost use Rattle.report_words.specs.Words.{line_of};
 ghost use Rattle.report_words.specs.Writing.{Writes};
 ghost use Rattle.merge_cli.specs.ReportLines.{report_text, text_of, head_lines, shown_lines};
-ghost use Rattle.merge_cli.specs.ReportLines.{verdict_lines, named_line, agent_lines, numbered_from, answer_lines};
+ghost use Rattle.merge_cli.specs.ReportLines.{verdict_lines, named_line, agent_lines};
+ghost use Rattle.merge_cli.specs.ReportLines.{numbered_from, answer_lines};
 
 use edge::NoMemory;
 use formula_text::write_valuations;
@@ -25,7 +26,8 @@ pub fn write_answer(
     answer: &Answer,
     into: &mut Vec<u8>,
 ) -> Result<(), NoMemory>
-    ensures { Writes result into.old.items into.new.items (report_text distance aggregator conflicts problem.now answer.now) }
+    ensures { Writes result into.old.items into.new.items
+        (report_text distance aggregator conflicts problem.now answer.now) }
 {
     write_head(distance, aggregator, conflicts, into)?;
     write_problem(problem, into)?;
@@ -39,7 +41,8 @@ fn write_head(
     conflicts: u64,
     into: &mut Vec<u8>,
 ) -> Result<(), NoMemory>
-    ensures { Writes result into.old.items into.new.items (text_of (head_lines distance aggregator conflicts)) }
+    ensures { Writes result into.old.items into.new.items
+        (text_of (head_lines distance aggregator conflicts)) }
 {
     write_line(b"merge-report", &[b"1"], into)?;
     write_line(b"distance", &[distance.word().as_bytes()], into)?;
@@ -53,7 +56,8 @@ fn write_head(
 
 // What merging came to.
 fn write_answer_lines(answer: &Answer, into: &mut Vec<u8>) -> Result<(), NoMemory>
-    ensures { Writes result into.old.items into.new.items (text_of (answer_lines answer.now)) }
+    ensures { Writes result into.old.items into.new.items
+        (text_of (answer_lines answer.now)) }
 {
     match answer {
         Answer::Merged {
@@ -74,7 +78,8 @@ fn write_answer_lines(answer: &Answer, into: &mut Vec<u8>) -> Result<(), NoMemor
 }
 
 fn write_numbers_line(first: &[u8], numbers: &[u32], into: &mut Vec<u8>) -> Result<(), NoMemory>
-    ensures { Writes result into.old.items into.new.items (line_of (first.now ∷ map decimal numbers.now) ++ codes "\n") }
+    ensures { Writes result into.old.items into.new.items
+        (line_of (first.now ∷ map decimal numbers.now) ++ codes "\n") }
 {
     write_bytes(first, into)?;
     write_numbers(numbers, into)?;
@@ -86,7 +91,8 @@ fn write_valuations_line(
     valuations: &[Valuation],
     into: &mut Vec<u8>,
 ) -> Result<(), NoMemory>
-    ensures { Writes result into.old.items into.new.items (line_of (first.now ∷ map valuation_word valuations.now) ++ codes "\n") }
+    ensures { Writes result into.old.items into.new.items
+        (line_of (first.now ∷ map valuation_word valuations.now) ++ codes "\n") }
 {
     write_bytes(first, into)?;
     write_valuations(valuations, into)?;
@@ -94,7 +100,8 @@ fn write_valuations_line(
 }
 
 fn write_shown(shown: &Shown, into: &mut Vec<u8>) -> Result<(), NoMemory>
-    ensures { Writes result into.old.items into.new.items (text_of (shown_lines shown.now)) }
+    ensures { Writes result into.old.items into.new.items
+        (text_of (shown_lines shown.now)) }
 {
     write_valuations_line(b"model", &[shown.model], into)?;
     write_numbers_line(b"vector", shown.vector.as_slice(), into)?;
@@ -102,7 +109,8 @@ fn write_shown(shown: &Shown, into: &mut Vec<u8>) -> Result<(), NoMemory>
 }
 
 fn write_verdict(number: u64, verdict: &Verdict, into: &mut Vec<u8>) -> Result<(), NoMemory>
-    ensures { Writes result into.old.items into.new.items (text_of (verdict_lines number verdict.now)) }
+    ensures { Writes result into.old.items into.new.items
+        (text_of (verdict_lines number verdict.now)) }
 {
     let mut digits = Buffer::new();
     let number = digits.format(number).as_bytes();
@@ -116,7 +124,8 @@ fn write_verdict(number: u64, verdict: &Verdict, into: &mut Vec<u8>) -> Result<(
 }
 
 fn write_verdicts(verdicts: &[Verdict], into: &mut Vec<u8>) -> Result<(), NoMemory>
-    ensures { Writes result into.old.items into.new.items (text_of (numbered_from verdict_lines 1 verdicts.now)) }
+    ensures { Writes result into.old.items into.new.items
+        (text_of (numbered_from verdict_lines 1 verdicts.now)) }
 {
     for (k, verdict) in verdicts.iter().enumerate() {
         write_verdict(k as u64 + 1, verdict, into)?;
@@ -130,7 +139,8 @@ fn write_named(
     model: Option<Valuation>,
     into: &mut Vec<u8>,
 ) -> Result<(), NoMemory>
-    ensures { Writes result into.old.items into.new.items (line_of (named_line (map (λ word. word.now) subject.now) model) ++ codes "\n") }
+    ensures { Writes result into.old.items into.new.items
+        (line_of (named_line (map (λ word. word.now) subject.now) model) ++ codes "\n") }
 {
     match model {
         None => write_line(b"no-model", subject, into),
@@ -144,14 +154,16 @@ fn write_named(
 }
 
 fn write_agent(number: u64, model: Option<Valuation>, into: &mut Vec<u8>) -> Result<(), NoMemory>
-    ensures { Writes result into.old.items into.new.items (text_of (agent_lines number model)) }
+    ensures { Writes result into.old.items into.new.items
+        (text_of (agent_lines number model)) }
 {
     let mut digits = Buffer::new();
     write_named(&[b"agent", digits.format(number).as_bytes()], model, into)
 }
 
 fn write_agents(models: &[Option<Valuation>], into: &mut Vec<u8>) -> Result<(), NoMemory>
-    ensures { Writes result into.old.items into.new.items (text_of (numbered_from agent_lines 1 models.now)) }
+    ensures { Writes result into.old.items into.new.items
+        (text_of (numbered_from agent_lines 1 models.now)) }
 {
     for (i, model) in models.iter().enumerate() {
         write_agent(i as u64 + 1, *model, into)?;

@@ -1,10 +1,12 @@
-ghost use Rattle.std.specs.Prelude.{◌≡◌, ◌≢◌, ◌⊎◌, ℕ, ◌<◌, ◌≤◌, ◌-◌, ◌↔◌, List, [], length, take};
-ghost use Rattle.std.specs.Prelude.{Option, Some, IfOk, OnErr, IsErrOf};
+ghost use Rattle.std.specs.Prelude.{◌≡◌, ◌≢◌, ◌⊎◌, ℕ, ◌<◌, ◌≤◌, ◌-◌, ◌↔◌};
+ghost use Rattle.std.specs.Prelude.{List, [], length, take, IfOk, OnErr, IsErrOf};
 ghost use Rattle.std.specs.Io.KnownBytes.{Appends, IsAtEnd};
 ghost use Rattle.edge.specs.Faults.{Rose};
 ghost use Rattle.edge.specs.Streams.{Exceeds, Gave};
 ghost use Rattle.merge_cli.specs.Commands.{IsCommand, IsNoCommand, limit_of, Reads, ReadsProblem};
-ghost use Rattle.merge_cli.specs.Answers.{Answers, Answered, CommandAnswers, TextAnswers, ProblemAnswers, IsReading, IsUnread, IsTooMuch, AsksText, AsksProblem};
+ghost use Rattle.merge_cli.specs.Answers.{Answers, Answered, CommandAnswers, TextAnswers};
+ghost use Rattle.merge_cli.specs.Answers.{ProblemAnswers, IsReading, IsUnread, IsTooMuch};
+ghost use Rattle.merge_cli.specs.Answers.{AsksText, AsksProblem};
 ghost use Rattle.merge_cli.specs.Merge.{ReportsMerge, ReportsLack};
 ghost use Rattle.merge_cli.specs.Refusals.{refusal_text, too_long_text};
 ghost use Rattle.merge_cli.specs.Rows.{ReadAnswers};
@@ -35,18 +37,17 @@ pub struct Outcome {
 }
 
 // What the command asks.
-fn command_reply<S: Source>(
-    alloc: Global,
-    command: Command,
-    source: &mut S,
-) -> Result<Reply, Stop>
-    ensures ok { IfOk result (λ reply. Answered (CommandAnswers command) (S.left source.old) (S.left source.new)
-        (S.room source.old) (S.room source.new) reply.status reply.text.items) }
+fn command_reply<S: Source>(alloc: Global, command: Command, source: &mut S) -> Result<Reply, Stop>
+    ensures ok { IfOk result (λ reply. Answered (CommandAnswers command)
+        (S.left source.old) (S.left source.new) (S.room source.old) (S.room source.new)
+        reply.status reply.text.items) }
     ensures err { OnErr result ((bytes : List ℕ) × Gave (S.left source.old) (S.left source.new)
         (S.room source.old) (S.room source.new) bytes) }
-    ensures failed { IsErrOf result Stop.Failed → Reads command × Rose (S.faults source.old) (S.faults source.new) }
+    ensures failed { IsErrOf result Stop.Failed
+        → Reads command × Rose (S.faults source.old) (S.faults source.new) }
     ensures faults { S.faults source.old ≤ S.faults source.new }
-    ensures quiet { result ≢ Err Stop.Failed → S.faults source.new ≡ S.faults source.old }
+    ensures quiet { result ≢ Err Stop.Failed
+        → S.faults source.new ≡ S.faults source.old }
     ensures unread { ¬ (Reads command) → source.new ≡ source.old }
 {
     match command {
@@ -56,13 +57,16 @@ fn command_reply<S: Source>(
 
 // What the words ask.
 fn reply<S: Source>(alloc: Global, words: &Words, source: &mut S) -> Result<Reply, Stop>
-    ensures ok { IfOk result (λ reply. Answered (Answers words.now) (S.left source.old) (S.left source.new)
-        (S.room source.old) (S.room source.new) reply.status reply.text.items) }
+    ensures ok { IfOk result (λ reply. Answered (Answers words.now)
+        (S.left source.old) (S.left source.new) (S.room source.old) (S.room source.new)
+        reply.status reply.text.items) }
     ensures err { OnErr result ((bytes : List ℕ) × Gave (S.left source.old) (S.left source.new)
         (S.room source.old) (S.room source.new) bytes) }
-    ensures failed { IsErrOf result Stop.Failed → IsReading words.now × Rose (S.faults source.old) (S.faults source.new) }
+    ensures failed { IsErrOf result Stop.Failed
+        → IsReading words.now × Rose (S.faults source.old) (S.faults source.new) }
     ensures faults { S.faults source.old ≤ S.faults source.new }
-    ensures quiet { result ≢ Err Stop.Failed → S.faults source.new ≡ S.faults source.old }
+    ensures quiet { result ≢ Err Stop.Failed
+        → S.faults source.new ≡ S.faults source.old }
     ensures unread { IsUnread words.now → source.new ≡ source.old }
 {
     match command_of(words) {
@@ -81,7 +85,8 @@ fn reply<S: Source>(alloc: Global, words: &Words, source: &mut S) -> Result<Repl
 /// - 8: the constraint or a base has no model; the text is the report that says which.
 /// - 0: the text is the report on the merged problem.
 /// - 5: a write failed; the sink took the first `sent` bytes of the text.
-/// - 6: memory was refused, at any place before the sending; there is no text and the sink is not called.
+/// - 6: memory was refused, at any place before the sending; there is no text and the sink is not
+///   called.
 pub fn run<S: Source, K: Sink>(
     alloc: Global,
     words: &Words,
@@ -93,52 +98,70 @@ pub fn run<S: Source, K: Sink>(
         (S.room source.old) (S.room source.new) result.status result.text.items }
 
     // At a fault of writing the text is that of another status, which this run had reached.
-    ensures unsent { result.status ≡ 5 → (wanted : ℕ) × Answered (Answers words.now) (S.left source.old) (S.left source.new)
-        (S.room source.old) (S.room source.new) wanted result.text.items }
+    ensures unsent { result.status ≡ 5 → (wanted : ℕ) × Answered (Answers words.now)
+        (S.left source.old) (S.left source.new) (S.room source.old) (S.room source.new)
+        wanted result.text.items }
 
     // Refusals come exactly where they are due, but for a fault or want of memory.
-    ensures refused_words { result.status ≢ 5 → result.status ≢ 6 → (result.status ≡ 2) ↔ IsNoCommand words.now }
+    ensures refused_words { result.status ≢ 5 → result.status ≢ 6
+        → (result.status ≡ 2) ↔ IsNoCommand words.now }
     ensures too_long { result.status ≢ 4 → result.status ≢ 5 → result.status ≢ 6
         → ((result.status ≡ 1) × (result.text.items ≡ too_long_text))
         ↔ IsTooMuch words.now (S.room source.old - S.room source.new) }
 
     // Where the source tells its bytes, the answer is that to these bytes.
-    ensures told { (command : Command) (bytes : List ℕ) → AsksText (S.left source.old) words.now command bytes
+    ensures told { (command : Command) (bytes : List ℕ)
+        → AsksText (S.left source.old) words.now command bytes
         → result.status ≢ 4 → result.status ≢ 5 → result.status ≢ 6
-        → ReadAnswers (limit_of command) (TextAnswers command) (S.left source.new) bytes result.status result.text.items }
-    ensures refused { (command : Command) (bytes : List ℕ) → AsksText (S.left source.old) words.now command bytes
-        → (fault : TextFault) → FirstFault bytes fault → ¬ (Exceeds (limit_of command) (length bytes))
+        → ReadAnswers (limit_of command) (TextAnswers command) (S.left source.new) bytes
+        result.status result.text.items }
+    ensures refused { (command : Command) (bytes : List ℕ)
+        → AsksText (S.left source.old) words.now command bytes
+        → (fault : TextFault) → FirstFault bytes fault
+        → ¬ (Exceeds (limit_of command) (length bytes))
         → result.status ≢ 4 → result.status ≢ 5 → result.status ≢ 6
         → (result.status ≡ 1) × (result.text.items ≡ refusal_text fault) }
-    ensures refused_only { (command : Command) (bytes : List ℕ) → AsksText (S.left source.old) words.now command bytes
+    ensures refused_only { (command : Command) (bytes : List ℕ)
+        → AsksText (S.left source.old) words.now command bytes
         → (fault : TextFault) → result.status ≡ 1 → result.text.items ≡ refusal_text fault
         → (first : TextFault) × FirstFault bytes first × (refusal_text first ≡ refusal_text fault) }
-    ensures answered_problem { (command : Command) (bytes : List ℕ) → AsksText (S.left source.old) words.now command bytes
-        → (problem : Problem) → Spelled bytes problem → ¬ (Exceeds (limit_of command) (length bytes))
+    ensures answered_problem { (command : Command) (bytes : List ℕ)
+        → AsksText (S.left source.old) words.now command bytes
+        → (problem : Problem) → Spelled bytes problem
+        → ¬ (Exceeds (limit_of command) (length bytes))
         → result.status ≢ 4 → result.status ≢ 5 → result.status ≢ 6
         → ProblemAnswers command problem result.status result.text.items }
     ensures lacking { (command : Command) (problem : Problem)
         → AsksProblem (S.left source.old) words.now command problem → result.status ≡ 8
         → LacksModel (profile_of problem) }
     ensures lacking_not_merged { (command : Command) (problem : Problem)
-        → AsksProblem (S.left source.old) words.now command problem → LacksModel (profile_of problem)
+        → AsksProblem (S.left source.old) words.now command problem
+        → LacksModel (profile_of problem)
         → result.status ≢ 0 }
     ensures merged { (distance : DistanceName) (aggregator : AggregatorName) (problem : Problem)
-        → AsksProblem (S.left source.old) words.now (Command.Merge distance aggregator) problem → result.status ≡ 0
+        → AsksProblem (S.left source.old) words.now (Command.Merge distance aggregator) problem
+        → result.status ≡ 0
         → ReportsMerge distance aggregator problem result.text.items }
-    ensures inconsistent { (distance : DistanceName) (aggregator : AggregatorName) (problem : Problem)
-        → AsksProblem (S.left source.old) words.now (Command.Merge distance aggregator) problem → result.status ≡ 8
+    ensures inconsistent { (distance : DistanceName) (aggregator : AggregatorName)
+        (problem : Problem)
+        → AsksProblem (S.left source.old) words.now (Command.Merge distance aggregator) problem
+        → result.status ≡ 8
         → ReportsLack distance aggregator problem result.text.items }
 
-    ensures read_fault { result.status ≡ 4 → IsReading words.now × Rose (S.faults source.old) (S.faults source.new) }
-    ensures write_fault { result.status ≡ 5 → (result.sent < length result.text.items) × Rose (K.faults sink.old) (K.faults sink.new) }
-    ensures stopped { (result.status ≡ 4) ⊎ (result.status ≡ 6) → (result.text.items ≡ []) × (sink.new ≡ sink.old) }
+    ensures read_fault { result.status ≡ 4
+        → IsReading words.now × Rose (S.faults source.old) (S.faults source.new) }
+    ensures write_fault { result.status ≡ 5
+        → (result.sent < length result.text.items) × Rose (K.faults sink.old) (K.faults sink.new) }
+    ensures stopped { (result.status ≡ 4) ⊎ (result.status ≡ 6)
+        → (result.text.items ≡ []) × (sink.new ≡ sink.old) }
 
-    ensures sent { Appends (K.taken sink.old) (K.taken sink.new) (take result.sent result.text.items) }
+    ensures sent { Appends (K.taken sink.old) (K.taken sink.new)
+        (take result.sent result.text.items) }
     ensures whole { result.status ≢ 5 → result.sent ≡ length result.text.items }
 
-    // The source gave some bytes and has those left that it had after them, however the run ended. A
-    // problem text that is not too long is read to its end, and a run that asks no text reads nothing.
+    // The source gave some bytes and has those left that it had after them, however the run ended.
+    // A problem text that is not too long is read to its end, and a run that asks no text reads
+    // nothing.
     ensures source { (bytes : List ℕ) × Gave (S.left source.old) (S.left source.new)
         (S.room source.old) (S.room source.new) bytes }
     ensures at_end { (command : Command) → IsCommand words.now command → ReadsProblem command
