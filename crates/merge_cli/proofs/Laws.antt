@@ -1,7 +1,6 @@
 -- The rows of the table of answers are apart.
-use Rattle.std.proofs.Common.{◌≡◌, ◌≢◌, ◌-◌, ◌↔◌, ℕ, List, length, arith, subst, sym, ap, ◌∙◌}
+use Rattle.std.proofs.Common.{◌≡◌, ◌≢◌, ℕ, List, length, arith, subst, sym, ap, ◌∙◌}
 use Rattle.std.specs.Prelude.{Option, slice_index}
-use Rattle.std.specs.Io.KnownBytes.{IsAtEnd}
 use Rattle.edge.specs.Streams.{Exceeds}
 use Rattle.merge_model.specs.declared.problem.Problem.{Problem}
 use Rattle.merge_model.specs.Answers.{profile_of}
@@ -17,7 +16,7 @@ use Rattle.merge_cli.specs.Commands.{IsCommand, IsNoCommand, limit_of, Reads, Re
 use Rattle.merge_cli.specs.Merge.{not_built, merged, inconsistent}
 use Rattle.merge_cli.specs.Refusals.{refusal_text, too_long_text}
 use Rattle.merge_cli.specs.Rows.{ReadAnswers, too_long, of_text, ProblemTextAnswers, refused, of_problem}
-use Rattle.merge_cli.specs.Answers.{ProblemAnswers, TextAnswers, CommandAnswers, Answers, Answered, refused_words, of_command, IsTooMuch}
+use Rattle.merge_cli.specs.Answers.{ProblemAnswers, TextAnswers, CommandAnswers, Answers, refused_words, of_command, IsTooMuch}
 use Rattle.merge_cli.proofs.Problems.{merge_lacks, merge_lacks_none}
 
 -- The commands, one case each.

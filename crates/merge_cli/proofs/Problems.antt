@@ -1,5 +1,5 @@
 -- What is answered to a problem, and to what was read.
-use Rattle.std.proofs.Common.{◌≡◌, ◌≤◌, ◌<◌, ℕ, List, length, inl, inr, arith}
+use Rattle.std.proofs.Common.{◌≡◌, ◌≤◌, ℕ, List, length, inl, inr, arith}
 use Rattle.std.specs.Prelude.{◌⊎◌, Result, Ok, Err, IfOk}
 use Rattle.merge_model.specs.declared.operator.DistanceName.{DistanceName}
 use Rattle.merge_model.specs.declared.operator.AggregatorName.{AggregatorName}
@@ -13,7 +13,7 @@ use Rattle.problem_reading.specs.declared.stop.TextStop.{TextStop}
 use Rattle.problem_reading.specs.declared.stop.TextStop.TheVariants.{Fault, NoMemory}
 use Rattle.problem_reading.specs.Spelling.{Spelled, StopsText}
 use Rattle.merge_cli.specs.declared.reply.Reply.{Reply}
-use Rattle.merge_cli.specs.Merge.{built_limit, MergeAnswers, ReportsMerge, status_of, answer_report, merged, inconsistent, not_built}
+use Rattle.merge_cli.specs.Merge.{built_limit, MergeAnswers, status_of, answer_report, merged, inconsistent, not_built}
 use Rattle.merge_cli.specs.Refusals.{SaysStop}
 use Rattle.merge_cli.specs.Rows.{ProblemTextAnswers, refused, of_problem}
 

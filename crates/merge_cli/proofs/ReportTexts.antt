@@ -12,7 +12,7 @@ use Rattle.merge_model.specs.declared.answer.Verdict.{Verdict}
 use Rattle.merge_model.specs.declared.answer.Verdict.TheVariants.{No}
 use Rattle.merge_model.specs.declared.problem.Problem.{Problem}
 use Rattle.formula_text.specs.ValuationWords.{valuation_word}
-use Rattle.std.proofs.lemmas.List.{map-append, take-append-drop, take_all}
+use Rattle.std.proofs.lemmas.List.{map-append, take_all}
 use Rattle.std.proofs.Math.Seq.{drop-cons, take-suc}
 use Rattle.profile_text.specs.ProblemText.{lines_text, problem_lines, problem_text}
 use Rattle.profile_text.proofs.Pieces.{lines_text-append}

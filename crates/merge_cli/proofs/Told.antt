@@ -1,5 +1,5 @@
 -- What a run answers, and where its source tells its bytes, what it answers to them.
-use Rattle.std.proofs.Common.{◌≡◌, ◌≢◌, ◌<◌, ◌≤◌, ◌+◌, ◌-◌, ◌↔◌, ℕ, List, ◌++◌, length, arith, subst, sym, ap, ◌∙◌, append-nil, length-append, inl, inr}
+use Rattle.std.proofs.Common.{◌≡◌, ◌≢◌, ◌≤◌, ◌+◌, ◌-◌, ◌↔◌, ℕ, List, ◌++◌, length, arith, subst, sym, ap, ◌∙◌, append-nil, length-append, inl, inr}
 use Rattle.std.specs.Prelude.{◌⊎◌, Option, Some, None}
 use Rattle.std.specs.Io.KnownBytes.{Consumes, IsAtEnd}
 use Rattle.edge.specs.Streams.{Exceeds}
@@ -13,11 +13,11 @@ use Rattle.problem_reading.specs.Spelling.{Spelled, FirstFault}
 use Rattle.problem_laws.proofs.TextLaws.{spelled_or_faulty}
 use Rattle.merge_cli.specs.declared.commands.Command.{Command}
 use Rattle.merge_cli.specs.declared.commands.Command.TheVariants.{Merge}
-use Rattle.merge_cli.specs.Commands.{IsCommand, IsNoCommand, limit_of, Reads, ReadsProblem}
+use Rattle.merge_cli.specs.Commands.{IsCommand, IsNoCommand, limit_of, ReadsProblem}
 use Rattle.merge_cli.specs.Merge.{MergeAnswers, ReportsMerge, ReportsLack, not_built, merged, inconsistent}
 use Rattle.merge_cli.specs.Refusals.{refusal_text, too_long_text}
-use Rattle.merge_cli.specs.Rows.{ReadAnswers, too_long, of_text, ProblemTextAnswers, refused, of_problem}
-use Rattle.merge_cli.specs.Answers.{ProblemAnswers, TextAnswers, CommandAnswers, Answers, Answered, refused_words, of_command, IsTooMuch, AsksText, AsksProblem}
+use Rattle.merge_cli.specs.Rows.{ReadAnswers, too_long, of_text, refused, of_problem}
+use Rattle.merge_cli.specs.Answers.{ProblemAnswers, TextAnswers, Answers, Answered, IsTooMuch, AsksText, AsksProblem}
 use Rattle.merge_cli.proofs.Laws.{reads_text, reading_row, text_row, lacks, lacks_none, not_refused, refused_comes, refused_only, too_long_comes, too_long_only, names_a_line, row_of}
 use Rattle.merge_cli.proofs.SameProblems.{equal_problems, equal_refusals}
 

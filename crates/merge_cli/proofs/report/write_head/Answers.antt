@@ -1,7 +1,6 @@
 use Rattle.std.proofs.Common.{rules, ◌≡◌, ℕ, List, [], ◌∷◌, ◌++◌, decimal, subst, sym, append-nil}
 use Rattle.std.specs.Prelude.{codes}
 use Rattle.merge_model.specs.OperatorWords.{distance_word, aggregator_word}
-use Rattle.report_words.specs.Words.{line_of}
 use Rattle.report_words.specs.Writing.{GrowsWithin, Writes}
 use Rattle.report_words.proofs.Growth.{part_of_first, part_of_rest, rest_written, same_text, stopped}
 use Rattle.merge_cli.proofs.ReportTexts.{line_text}

@@ -1,4 +1,4 @@
-use Rattle.std.proofs.Common.{ℕ, List, ◌∷◌, [], map, sym}
+use Rattle.std.proofs.Common.{◌∷◌, [], map, sym}
 use Rattle.std.specs.Prelude.{codes}
 use Rattle.formula_text.specs.ValuationWords.{valuation_word}
 use Rattle.report_words.specs.Words.{later_text}
