@@ -10,7 +10,8 @@ use Rattle.watch_lists.specs.Trace.{Trace, Attached, Grows, Same, More, value_of
 use Rattle.watch_lists.proofs.Traces.{free_entry}
 use Rattle.cdcl_core.specs.Choices.{AreTrueBefore}
 use Rattle.solver_laws.specs.Ready.{DecidesOnly}
-use Rattle.solver_laws.proofs.Rooms.{upto_whole, upto_upto, contains_has}
+use Rattle.watch_lists.proofs.Parts.{upto_whole, upto_upto}
+use Rattle.solver_laws.proofs.Rooms.{contains_has}
 use Rattle.watch_lists.proofs.Scans.{contains_all}
 use Rattle.solver_laws.proofs.Turns.{decides_less, decides_upto}
 use Rattle.cdcl_core.specs.Asking.{IsAsking}

@@ -14,7 +14,8 @@ use Rattle.derivation_log.specs.Logs.{Log, known_of, is_learned}
 use Rattle.derivation_log.specs.declared.step.Step.{Step}
 use Rattle.solver_laws.specs.Ready.{IsFalseIn, IsReason, IsJustified, DecidesOnly, IsBarred, IsLog}
 use Rattle.std.specs.List.{AllByRecursion}
-use Rattle.solver_laws.proofs.Rooms.{room_cons, room_false, each_map, same_lit-is, contains_has}
+use Rattle.watch_lists.proofs.Parts.{room_cons}
+use Rattle.solver_laws.proofs.Rooms.{room_false, each_map, same_lit-is, contains_has}
 use Rattle.solver_laws.proofs.Steps.{drop_false}
 use Rattle.solver_laws.proofs.Turns.{all_map}
 use Rattle.watch_lists.proofs.Traces.{entry_of-var}

@@ -7,7 +7,8 @@ use Rattle.std.proofs.lemmas.List.Sums.{sum_by-append}
 use Rattle.clause_store.specs.declared.lit.Lit.{Lit}
 use Rattle.watch_lists.specs.declared.entry.Entry.{Entry}
 use Rattle.watch_lists.specs.Trace.{Trace, value_of, entry_of, room_in, room_of, upto, IsTrace}
-use Rattle.solver_laws.proofs.Rooms.{room_at, level_le, room_cons}
+use Rattle.watch_lists.proofs.Parts.{level_le, room_cons}
+use Rattle.solver_laws.proofs.Rooms.{room_at}
 
 abbrev pub no_lit : Lit
 no_lit = record { var = 0; positive = false }

@@ -10,6 +10,7 @@ use std::rt::Env;
 
 // The system's arguments without the first, which is the program's own name. The name is never
 // read, so it may have any bytes.
+#[derive(Drop)]
 struct AfterName<'a, R> {
     rt: &'a R,
 }

@@ -15,7 +15,7 @@ use Rattle.totalizer.specs.Counter.{AllUnary, AllVarsWithin, AreFresh}
 use Rattle.totalizer.proofs.Distinct.{ShareNone, place_left, place_right, fresh_none, fresh_append, fresh_tail, fresh_rest}
 use Rattle.totalizer.proofs.Law.{more_vars}
 use Rattle.agent_copies.specs.Counter.{truth_of}
-use Rattle.agent_copies.specs.Limits.{shared_limit}
+use Rattle.formulas.specs.Limits.{valuation_limit}
 use Rattle.agent_copies.proofs.Truths.{free}
 use Rattle.agent_copies.specs.Copy.{CopyDue, copy_due}
 use Rattle.clause_store.specs.Fresh.{fresh_lits}
@@ -94,7 +94,7 @@ apart_more v u w r xs roots outputs f rf of apart (suc j) k hj hk e =
           omega arith)
     ]
 
-pub copies_are : (dist : List Bool → List Bool → ℕ) (most : ℕ → ℕ) (due : DueCounter) → Counts dist most due → (shared : List Lit) → 1 ≤ length shared → length shared ≤ shared_limit → (v : ℕ) → InRange v shared → (bases : List Formula) → All (λ f. width_of f ≤ length shared) bases → AreCopies v shared bases dist (most (length shared)) (copies_due due shared v bases)
+pub copies_are : (dist : List Bool → List Bool → ℕ) (most : ℕ → ℕ) (due : DueCounter) → Counts dist most due → (shared : List Lit) → 1 ≤ length shared → length shared ≤ valuation_limit → (v : ℕ) → InRange v shared → (bases : List Formula) → All (λ f. width_of f ≤ length shared) bases → AreCopies v shared bases dist (most (length shared)) (copies_due due shared v bases)
 copies_are dist most due law shared lo hi v in_range [] wide = record {
   grows = omega arith;
   extends = λ ws e o. copies_none v ws e;

@@ -3,3 +3,4 @@ pub mod MainDues
 pub mod Frames
 pub mod Claims
 pub mod Assumptions
+pub mod Named

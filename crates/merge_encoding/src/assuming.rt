@@ -17,13 +17,15 @@ use formulas::Valuation;
 use std::alloc::Global;
 use totalizer::Unary;
 
-/// What a claim assumes of a frame, in order: literals that together say that the claim is false. They
-/// are on distinct variables where the frame is distinct. `NoMemory` for want of memory.
+/// What a claim assumes of a frame, in order: literals that together say that the claim is false.
+/// They are on distinct variables where the frame is distinct. `NoMemory` for want of memory.
 pub fn assumptions(alloc: Global, frame: &Frame, claim: &Claim) -> Result<Vec<Lit>, NoMemory>
     requires { IsProperIn frame.now (said claim.now) }
     ensures lits { IfOk result (λ lits. lits.items ≡ assumed_in frame.now (said claim.now)) }
-    ensures in_range { (vars : ℕ) → IsFrameOver vars frame.now → InRange vars (assumed_in frame.now (said claim.now)) }
-    ensures distinct { FrameIsDistinct frame.now → AllPairs (λ k l. k.var ≢ l.var) (assumed_in frame.now (said claim.now)) }
+    ensures in_range { (vars : ℕ) → IsFrameOver vars frame.now →
+        InRange vars (assumed_in frame.now (said claim.now)) }
+    ensures distinct { FrameIsDistinct frame.now →
+        AllPairs (λ k l. k.var ≢ l.var) (assumed_in frame.now (said claim.now)) }
 {
     claim_lits(alloc, frame, claim)
 }
@@ -106,7 +108,8 @@ fn nearer_lits(
     requires size { length model ≡ length shared.now }
     requires low { 1 ≤ distance }
     requires high { distance ≤ length copy.now.away }
-    ensures { IfOk result (λ lits. lits.items ≡ signed shared.now model ++ (copy.now.root ∷ negative_lit (slice_index copy.now.away (distance - 1)) ∷ [])) }
+    ensures { IfOk result (λ lits. lits.items ≡ signed shared.now model ++
+        (copy.now.root ∷ negative_lit (slice_index copy.now.away (distance - 1)) ∷ [])) }
 {
     let mut lits = model_lits(alloc, shared, model)?;
     lits.push(copy.root)?;
@@ -116,7 +119,8 @@ fn nearer_lits(
 
 // The roots of the constraint and of the bases.
 fn root_lits(alloc: Global, constraint: Lit, copies: &[AgentCopy]) -> Result<Vec<Lit>, NoMemory>
-    ensures { IfOk result (λ lits. lits.items ≡ constraint ∷ map (λ (c : Copy). c.root) copies.now) }
+    ensures { IfOk result (λ lits. lits.items ≡
+        constraint ∷ map (λ (c : Copy). c.root) copies.now) }
 {
     let mut lits = Vec::new(alloc);
     lits.push(constraint)?;
@@ -150,7 +154,8 @@ fn push_limits(lits: &mut Vec<Lit>, levels: &[Unary], values: &[u32]) -> Result<
 // The roots, and that each level is at most its value.
 fn limited_lits(alloc: Global, frame: &Frame, values: &[u32]) -> Result<Vec<Lit>, NoMemory>
     requires { FitLevels values.now frame.now.levels }
-    ensures { IfOk result (λ lits. lits.items ≡ roots_in frame.now ++ each_at_most frame.now.levels values.now) }
+    ensures { IfOk result (λ lits. lits.items ≡
+        roots_in frame.now ++ each_at_most frame.now.levels values.now) }
 {
     let mut lits = root_lits(alloc, frame.constraint, frame.copies.as_slice())?;
     push_limits(&mut lits, frame.levels.as_slice(), values)?;
@@ -167,7 +172,8 @@ fn push_better(
     requires level { level < length levels.now }
     requires fit { FitLevels values.now levels.now }
     requires some { 1 ≤ slice_index values.now level }
-    ensures { OnOk result (lits.new.items ≡ lits.old.items ++ better_lits level levels.now values.now) }
+    ensures { OnOk result (lits.new.items ≡
+        lits.old.items ++ better_lits level levels.now values.now) }
 {
     push_limits(lits, &levels[..level], &values[..level])?;
     lits.push(levels[level].at_least(values[level]).negated())?;
@@ -184,7 +190,8 @@ fn better_lits(
     requires level { level < length frame.now.levels }
     requires fit { FitLevels values.now frame.now.levels }
     requires some { 1 ≤ slice_index values.now level }
-    ensures { IfOk result (λ lits. lits.items ≡ roots_in frame.now ++ better_lits level frame.now.levels values.now) }
+    ensures { IfOk result (λ lits. lits.items ≡
+        roots_in frame.now ++ better_lits level frame.now.levels values.now) }
 {
     let mut lits = root_lits(alloc, frame.constraint, frame.copies.as_slice())?;
     push_better(&mut lits, frame.levels.as_slice(), values, level)?;

@@ -3,10 +3,9 @@
 ghost use Rattle.std.specs.Prelude.{◌≡◌, ℕ, ◌+◌, ◌*◌, ◌<◌, ◌≤◌, ◌^◌, [], ◌∷◌, ◌++◌, length, map, sum_by, All, IfOk, OnOk};
 ghost use Rattle.clause_store.specs.Limits.{var_limit};
 ghost use Rattle.clause_store.specs.Lits.{positive_lit, sorted_clause, InRange};
-ghost use Rattle.formulas.specs.Limits.{node_limit};
+ghost use Rattle.formulas.specs.Limits.{node_limit, valuation_limit};
 ghost use Rattle.formulas.specs.Formulas.{nodes_of, width_of};
 ghost use Rattle.merge_model.specs.Answers.{profile_of};
-ghost use Rattle.agent_copies.specs.Limits.{shared_limit};
 ghost use Rattle.merge_encoding.specs.Limits.{copy_room};
 ghost use Rattle.merge_encoding.specs.MainDues.{definitions, copies_due, due_for, IsMain};
 ghost use Rattle.merge_encoding.specs.Frames.{copy_of, frame_of, IsFrameOver, FrameIsDistinct};
@@ -32,9 +31,12 @@ fn define_all(
     requires room { clauses.old.vars + sum_by nodes_of formulas.now ≤ var_limit }
     requires known { All (λ f. width_of f ≤ length atoms.now) formulas.now }
     requires in_range { InRange clauses.old.vars atoms.now }
-    ensures roots { IfOk result (λ roots. roots.items ≡ map positive_lit (definitions atoms.now clauses.old.vars formulas.now).roots) }
-    ensures vars { OnOk result (clauses.new.vars ≡ (definitions atoms.now clauses.old.vars formulas.now).vars) }
-    ensures list { OnOk result (clauses.new.list ≡ clauses.old.list ++ map sorted_clause (definitions atoms.now clauses.old.vars formulas.now).clauses) }
+    ensures roots { IfOk result (λ roots. roots.items ≡
+        map positive_lit (definitions atoms.now clauses.old.vars formulas.now).roots) }
+    ensures vars { OnOk result (clauses.new.vars ≡
+        (definitions atoms.now clauses.old.vars formulas.now).vars) }
+    ensures list { OnOk result (clauses.new.list ≡ clauses.old.list ++
+        map sorted_clause (definitions atoms.now clauses.old.vars formulas.now).clauses) }
 {
     let mut roots = Vec::new(alloc);
     for formula in formulas {
@@ -53,15 +55,22 @@ fn copy_all<D: Counted>(
     distance: &D,
 ) -> Result<Vec<AgentCopy>, NoMemory>
     requires some { 1 ≤ length shared.now }
-    requires few { length shared.now ≤ shared_limit }
+    requires few { length shared.now ≤ valuation_limit }
     requires shared_in { InRange clauses.old.vars shared.now }
     requires few_nodes { All (λ agent. nodes_of agent.base ≤ node_limit) agents.now }
     requires known { All (λ agent. width_of agent.base ≤ length shared.now) agents.now }
     requires room { clauses.old.vars + copy_room * length agents.now ≤ var_limit }
-    ensures copies { IfOk result (λ copies. copies.items ≡ map copy_of (copies_due (D.due distance.now) shared.now clauses.old.vars (map (λ agent. agent.base) agents.now)).copies) }
-    ensures vars { OnOk result (clauses.new.vars ≡ (copies_due (D.due distance.now) shared.now clauses.old.vars (map (λ agent. agent.base) agents.now)).vars) }
-    ensures room { OnOk result (clauses.new.vars ≤ clauses.old.vars + copy_room * length agents.now) }
-    ensures list { OnOk result (clauses.new.list ≡ clauses.old.list ++ map sorted_clause (copies_due (D.due distance.now) shared.now clauses.old.vars (map (λ agent. agent.base) agents.now)).clauses) }
+    ensures copies { IfOk result (λ copies. copies.items ≡ map copy_of
+        (copies_due (D.due distance.now) shared.now clauses.old.vars
+        (map (λ agent. agent.base) agents.now)).copies) }
+    ensures vars { OnOk result (clauses.new.vars ≡
+        (copies_due (D.due distance.now) shared.now clauses.old.vars
+        (map (λ agent. agent.base) agents.now)).vars) }
+    ensures room { OnOk result (clauses.new.vars ≤
+        clauses.old.vars + copy_room * length agents.now) }
+    ensures list { OnOk result (clauses.new.list ≡ clauses.old.list ++ map sorted_clause
+        (copies_due (D.due distance.now) shared.now clauses.old.vars
+        (map (λ agent. agent.base) agents.now)).clauses) }
 {
     let mut copies = Vec::new(alloc);
     for agent in agents {
@@ -100,9 +109,12 @@ fn encoded<D: Counted, A: Levelled>(
     distance: &D,
     aggregator: &A,
 ) -> Result<Main, NoMemory>
-    ensures frame { IfOk result (λ main. main.frame ≡ frame_of (due_for (D.due distance.now) (A.levels_due aggregator.now) problem.now)) }
-    ensures vars { IfOk result (λ main. main.clauses.vars ≡ (due_for (D.due distance.now) (A.levels_due aggregator.now) problem.now).vars) }
-    ensures list { IfOk result (λ main. main.clauses.list ≡ map sorted_clause (due_for (D.due distance.now) (A.levels_due aggregator.now) problem.now).clauses) }
+    ensures frame { IfOk result (λ main. main.frame ≡
+        frame_of (due_for (D.due distance.now) (A.levels_due aggregator.now) problem.now)) }
+    ensures vars { IfOk result (λ main. main.clauses.vars ≡
+        (due_for (D.due distance.now) (A.levels_due aggregator.now) problem.now).vars) }
+    ensures list { IfOk result (λ main. main.clauses.list ≡ map sorted_clause
+        (due_for (D.due distance.now) (A.levels_due aggregator.now) problem.now).clauses) }
 {
     let mut clauses = ClauseList::new(alloc);
     let shared = clauses.fresh_lits(problem.atoms.len() as usize)?;
@@ -137,14 +149,19 @@ pub fn encode<D: Counted, A: Levelled>(
     distance: &D,
     aggregator: &A,
 ) -> Result<Main, NoMemory>
-    ensures frame { IfOk result (λ main. main.frame ≡ frame_of (due_for (D.due distance.now) (A.levels_due aggregator.now) problem.now)) }
-    ensures vars { IfOk result (λ main. main.clauses.vars ≡ (due_for (D.due distance.now) (A.levels_due aggregator.now) problem.now).vars) }
-    ensures list { IfOk result (λ main. main.clauses.list ≡ map sorted_clause (due_for (D.due distance.now) (A.levels_due aggregator.now) problem.now).clauses) }
+    ensures frame { IfOk result (λ main. main.frame ≡
+        frame_of (due_for (D.due distance.now) (A.levels_due aggregator.now) problem.now)) }
+    ensures vars { IfOk result (λ main. main.clauses.vars ≡
+        (due_for (D.due distance.now) (A.levels_due aggregator.now) problem.now).vars) }
+    ensures list { IfOk result (λ main. main.clauses.list ≡ map sorted_clause
+        (due_for (D.due distance.now) (A.levels_due aggregator.now) problem.now).clauses) }
     ensures over { IfOk result (λ main. IsFrameOver main.clauses.vars main.frame) }
     ensures distinct { IfOk result (λ main. FrameIsDistinct main.frame) }
 
     // what the clauses mean
-    ensures means { IsMain (D.dist distance.now) (D.most distance.now (length problem.now.atoms)) (A.levels_of aggregator.now) (profile_of problem.now) problem.now.asks (due_for (D.due distance.now) (A.levels_due aggregator.now) problem.now) }
+    ensures means { IsMain (D.dist distance.now) (D.most distance.now (length problem.now.atoms))
+        (A.levels_of aggregator.now) (profile_of problem.now) problem.now.asks
+        (due_for (D.due distance.now) (A.levels_due aggregator.now) problem.now) }
 {
     encoded(alloc, problem, distance, aggregator)
 }

@@ -17,25 +17,33 @@ use aggregators::Levelled;
 /// What the main clauses mean, and that their frame is over their variables and distinct.
 pub fn frame_law<D: Counted, A: Levelled>(distance: &D, aggregator: &A)
     ensures means { (p : Profile) (asks : List Tree) → IsLimited p asks →
-        IsMain (D.dist distance.now) (D.most distance.now p.atoms) (A.levels_of aggregator.now) p asks (main_due (D.due distance.now) (A.levels_due aggregator.now) p asks) }
+        IsMain (D.dist distance.now) (D.most distance.now p.atoms) (A.levels_of aggregator.now)
+        p asks (main_due (D.due distance.now) (A.levels_due aggregator.now) p asks) }
     ensures over { (p : Profile) (asks : List Tree) → IsLimited p asks →
-        let main = main_due (D.due distance.now) (A.levels_due aggregator.now) p asks in IsFrameOver main.vars (frame_of main) }
+        let main = main_due (D.due distance.now) (A.levels_due aggregator.now) p asks in
+        IsFrameOver main.vars (frame_of main) }
     ensures distinct { (p : Profile) (asks : List Tree) → IsLimited p asks →
-        FrameIsDistinct (frame_of (main_due (D.due distance.now) (A.levels_due aggregator.now) p asks)) }
+        let main = main_due (D.due distance.now) (A.levels_due aggregator.now) p asks in
+        FrameIsDistinct (frame_of main) }
 {
     let _distance = distance;
     let _aggregator = aggregator;
 }
 
-/// Each claim is true exactly where no assignment satisfies the main clauses with its assumptions. An
-/// assignment that does has valuations that show the claim false.
+/// Each claim is true exactly where no assignment satisfies the main clauses with its assumptions.
+/// An assignment that does has valuations that show the claim false.
 pub fn claim_law<D: Counted, A: Levelled>(distance: &D, aggregator: &A)
     ensures exact { (p : Profile) (asks : List Tree) (claim : Assertion) → IsLimited p asks →
-        let main = main_due (D.due distance.now) (A.levels_due aggregator.now) p asks in IsProper main claim →
-        (IsTrueThat (D.dist distance.now) (D.most distance.now p.atoms) (A.levels_of aggregator.now) p asks claim ↔ NoneSatisfies main (assumed main claim)) }
-    ensures broken { (p : Profile) (asks : List Tree) (claim : Assertion) (b : ℕ → Bool) → IsLimited p asks →
-        let main = main_due (D.due distance.now) (A.levels_due aggregator.now) p asks in IsProper main claim → AreTrue main.clauses b → AllTrue b (assumed main claim) →
-        Breaks (D.dist distance.now) (D.most distance.now p.atoms) (A.levels_of aggregator.now) p asks claim (truth_of b main.shared) (owns_of b main.copies) }
+        let main = main_due (D.due distance.now) (A.levels_due aggregator.now) p asks in
+        IsProper main claim →
+        (IsTrueThat (D.dist distance.now) (D.most distance.now p.atoms)
+        (A.levels_of aggregator.now) p asks claim ↔ NoneSatisfies main (assumed main claim)) }
+    ensures broken { (p : Profile) (asks : List Tree) (claim : Assertion) (b : ℕ → Bool) →
+        IsLimited p asks →
+        let main = main_due (D.due distance.now) (A.levels_due aggregator.now) p asks in
+        IsProper main claim → AreTrue main.clauses b → AllTrue b (assumed main claim) →
+        Breaks (D.dist distance.now) (D.most distance.now p.atoms) (A.levels_of aggregator.now)
+        p asks claim (truth_of b main.shared) (owns_of b main.copies) }
 {
     let _distance = distance;
     let _aggregator = aggregator;
@@ -43,5 +51,7 @@ pub fn claim_law<D: Counted, A: Levelled>(distance: &D, aggregator: &A)
 
 /// What is assumed of better values at a level reads the values up to that level alone.
 pub fn better_law()
-    ensures { (f : Place) (j : ℕ) (values others : List ℕ) → take (suc j) values ≡ take (suc j) others → assumed_in f (NoBetter j values) ≡ assumed_in f (NoBetter j others) }
+    ensures { (f : Place) (j : ℕ) (values others : List ℕ) →
+        take (suc j) values ≡ take (suc j) others →
+        assumed_in f (NoBetter j values) ≡ assumed_in f (NoBetter j others) }
 {}

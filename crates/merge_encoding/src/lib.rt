@@ -1,4 +1,4 @@
-//! The main clauses of a problem, where its parts stand in them, and the claims that are asked of them.
+//! The main clauses of a problem, where its parts stand in them, and the claims on it.
 #![tactic(auto)]
 
 mod assuming;

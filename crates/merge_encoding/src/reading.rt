@@ -36,10 +36,11 @@ impl Frame {
         valuation_of(assignment, self.copies.as_slice()[agent].own.as_slice())
     }
 
-    /// The value of each level under the assignment, the first first; `NoMemory` for want of memory.
+    /// The value of each level under the assignment, in order; `NoMemory` for want of memory.
     pub fn level_values(&self, alloc: Global, assignment: &Assignment) -> Result<Vec<u32>, NoMemory>
         requires { IsFrameOver (length assignment.now) self.now }
-        ensures { IfOk result (λ values. values.items ≡ counts_of (values_of assignment.now) self.now.levels) }
+        ensures { IfOk result (λ values. values.items ≡
+            counts_of (values_of assignment.now) self.now.levels) }
     {
         counts_of(alloc, assignment, self.levels.as_slice())
     }
@@ -73,7 +74,8 @@ fn counts_of(
     counters: &[Unary],
 ) -> Result<Vec<u32>, NoMemory>
     requires { AllVarsWithin (length assignment.now) counters.now }
-    ensures { IfOk result (λ values. values.items ≡ counts_of (values_of assignment.now) counters.now) }
+    ensures { IfOk result (λ values. values.items ≡
+        counts_of (values_of assignment.now) counters.now) }
 {
     let mut values = Vec::with_capacity(alloc, counters.len())?;
     for counter in counters {

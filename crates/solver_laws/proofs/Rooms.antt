@@ -3,13 +3,13 @@ use Rattle.std.proofs.Common.{◌≡◌, ◌≢◌, ℕ, ◌+◌, ◌<◌, ◌�
 use Rattle.std.specs.Prelude.{nat_lt, nat_le, ◌||◌, Contains}
 use Rattle.std.proofs.lemmas.Bool.{cases_lt, cases_eq, cases_Bool, false≢true}
 use Rattle.std.proofs.Math.Bool.{beq}
-use Rattle.std.proofs.lemmas.List.Sums.{sum_by-cons}
 use Rattle.clause_store.specs.declared.lit.Lit.{Lit}
 use Rattle.clause_store.specs.Lits.{rank_of, negated, same_lit, without, with_lit, joined, resolvent, IsBelow, Ascends, has, Includes}
 use Rattle.clause_store.proofs.Lits.{rank_lit}
 use Rattle.clause_store.proofs.Truths.{or_cases, or_left, or_right}
 use Rattle.watch_lists.specs.declared.entry.Entry.{Entry}
 use Rattle.watch_lists.specs.Trace.{value_of, entry_of, under, room_in, room_of, upto, AreApart, IsStacked, Place, places_of, Extends}
+use Rattle.watch_lists.proofs.Parts.{room_cons, upto_whole, upto_upto, entry_upto, level_le}
 use Rattle.solver_laws.specs.Ready.{IsFalseIn, Tops}
 use Rattle.std.specs.List.{AllByRecursion}
 
@@ -79,9 +79,6 @@ false_before es e l h n =
       | inl g ↦ (let t : eqb e.lit.var l.var ≡ true = grind arith in let k = opposite e.lit.var l.var e.lit.positive l.positive g (some_same (beq e.lit.positive l.positive) false (rw t at h)) in absurd (false≢true (sym n ∙ k)))
       | inr g ↦ (let t : eqb e.lit.var l.var ≡ false = grind arith in rw t at h)
     ]
-
-pub room_cons : (es : List Entry) (l : Lit) (ls : List Lit) → room_of es (l ∷ ls) ≡ room_in (value_of es l) + room_of es ls
-room_cons es l ls = sum_by-cons (λ (x : Lit). room_in (value_of es x)) l ls
 
 -- a reason's other literals
 room_zero : (v : Option Bool) → room_in v ≡ 0 → v ≡ Some false
@@ -187,46 +184,12 @@ room_le es (l ∷ ls) d s i =
     let rest = room_le es ls (without l d) s.1 (λ k h. has-without k l d (above_not l k ls s.0 h) (i k (or_right _ _ h))) in
     omega (arith, one, rest, room_cons es l ls)
 
--- levels
-pub upto_whole : (k : ℕ) (es : List Entry) → IsStacked k es → upto k es ≡ es
-upto_whole k [] s = refl
-upto_whole k (e ∷ es) s = let t : nat_le e.level k ≡ true = grind (arith, s.0) in rw t refl
-
-pub upto_upto : (k b : ℕ) (es : List Entry) → k ≤ b → upto k (upto b es) ≡ upto k es
-upto_upto k b [] h = refl
-upto_upto k b (e ∷ es) h =
-    elim (cases_lt b e.level) [
-      | inl g ↦ (let t : nat_le e.level b ≡ false = grind arith in let u : nat_le e.level k ≡ false = grind arith in rw (t, u) (upto_upto k b es h))
-      | inr g ↦ (let t : nat_le e.level b ≡ true = grind arith in rw t refl)
-    ]
-
 pub upto_extends : (k : ℕ) (es : List Entry) → Extends (places_of (upto k es)) (places_of es)
 upto_extends k [] = ([], refl)
 upto_extends k (e ∷ es) =
     elim (cases_lt k e.level) [
       | inl g ↦ (let t : nat_le e.level k ≡ false = grind arith in let r = upto_extends k es in let p : Place = record { lit = e.lit; level = e.level } in rw t (p ∷ r.0, ap (λ (zs : List Place). p ∷ zs) r.1))
       | inr g ↦ (let t : nat_le e.level k ≡ true = grind arith in rw t ([], refl))
-    ]
-
-pub entry_upto : (k v : ℕ) (es : List Entry) → entry_of es v ≡ None → entry_of (upto k es) v ≡ None
-entry_upto k v [] h = refl
-entry_upto k v (e ∷ es) h =
-    elim (cases_eq e.lit.var v) [
-      | inl g ↦ (let t : eqb e.lit.var v ≡ true = grind arith in let h' = rw t at h in absurd (cc))
-      | inr g ↦ (let t : eqb e.lit.var v ≡ false = grind arith in
-          elim (cases_lt k e.level) [
-            | inl q ↦ (let u : nat_le e.level k ≡ false = grind arith in rw u (entry_upto k v es (rw t at h)))
-            | inr q ↦ (let u : nat_le e.level k ≡ true = grind arith in rw u h)
-          ])
-    ]
-
-pub level_le : (lv v : ℕ) (es : List Entry) (e : Entry) → IsStacked lv es → entry_of es v ≡ Some e → e.level ≤ lv
-level_le lv v [] e s h = absurd (cc)
-level_le lv v (x ∷ xs) e s h =
-    elim (cases_eq x.lit.var v) [
-      | inl g ↦ (let t : eqb x.lit.var v ≡ true = grind arith in let h' = rw t at h in let q : x ≡ e = cc in omega (arith, s.0, ap (λ (y : Entry). y.level) q))
-      | inr g ↦ (let t : eqb x.lit.var v ≡ false = grind arith in let h' = rw t at h in
-          elim s.1 [ inl d ↦ omega (arith, level_le d.1.0 v xs e d.1.2 h', d.1.1) | inr i ↦ level_le lv v xs e i.1 h' ])
     ]
 
 -- what a false literal leaves open under the lower levels

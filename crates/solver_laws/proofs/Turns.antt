@@ -14,7 +14,8 @@ use Rattle.derivation_log.proofs.Steps.{sound_push, new_push, learned_push, know
 use Rattle.solver_laws.specs.Ready.{IsFalseIn, IsReason, IsJustified, DecidesOnly, IsReady, IsLog, AllFit}
 use Rattle.std.specs.List.{AllByRecursion}
 use Rattle.solver_laws.specs.Digits.{IsFit}
-use Rattle.solver_laws.proofs.Rooms.{room_false, room_without, contains_has, room_le, upto_whole, upto_upto, upto_extends}
+use Rattle.watch_lists.proofs.Parts.{upto_whole, upto_upto}
+use Rattle.solver_laws.proofs.Rooms.{room_false, room_without, contains_has, room_le, upto_extends}
 use Rattle.clause_store.proofs.Each.{each_at, each_of_index}
 use Rattle.clause_store.proofs.Numbered.{get_front, get_seam}
 

@@ -2,7 +2,7 @@ use Rattle.std.proofs.Common.{arith, ◌≡◌, ◌<◌, ℕ, List, sym, ◌∙�
 use Rattle.watch_lists.specs.declared.entry.Entry.{Entry}
 use Rattle.watch_lists.specs.Trace.{Place, places_of, Trace, Attached, upto, IsStacked, Extends, shorter}
 use Rattle.solver_laws.specs.Ready.{IsReady}
-use Rattle.solver_laws.proofs.Rooms.{upto_whole}
+use Rattle.watch_lists.proofs.Parts.{upto_whole}
 use Rattle.solver_laws.proofs.Turns.{undo_extends, ready_back, shorter_first, ready_same}
 use Rattle.cdcl_core.proofs.engine.retreat.Goals as goal
 

@@ -1,0 +1,4 @@
+pub mod Orders
+pub mod Lines
+pub mod Witnesses
+pub mod Truths
