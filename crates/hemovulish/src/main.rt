@@ -3,18 +3,42 @@
 
 use edge::{NoMemory, StdSink, StdSource, Words};
 use merge_cli::{run, status};
-use std::env;
+use std::env::{self, FillError};
 use std::io::ErrorKind;
 use std::process::ExitCode;
 use std::rt::Env;
+
+// The system's arguments without the first, which is the program's own name. The name is never
+// read, so it may have any bytes.
+#[derive(Drop)]
+struct AfterName<'a, R> {
+    rt: &'a R,
+}
+
+impl<R: Env> Env for AfterName<'_, R> {
+    fn arg(&self, i: usize, buf: &mut [u8]) -> Result<usize, FillError> {
+        match i.checked_add(1) {
+            Some(next) => self.rt.arg(next, buf),
+            None => Err(FillError::NotPresent),
+        }
+    }
+
+    fn var(&self, name: &str, buf: &mut [u8]) -> Result<usize, FillError> {
+        self.rt.var(name, buf)
+    }
+
+    fn var_at(&self, i: usize, buf: &mut [u8]) -> Result<usize, FillError> {
+        self.rt.var_at(i, buf)
+    }
+}
 
 // The arguments behind the program's own name. Where one is not UTF-8, a single empty word, which
 // no command has, stands for all of them.
 fn words_of<R: Env + AllocGlobal>(rt: &R) -> Result<Words, NoMemory> {
     let mut words = Words::new(rt.alloc());
-    match env::args(rt) {
+    match env::args(&(AfterName { rt }, rt.alloc())) {
         Ok(arguments) => {
-            for word in arguments.skip(1) {
+            for word in arguments {
                 words.push(word.as_str())?;
             }
         }

@@ -1,104 +1,143 @@
 -- The rows of the table of answers are apart.
-use Rattle.std.proofs.Common.{◌≡◌, ◌≢◌, ◌<◌, ◌≤◌, ◌-◌, ◌↔◌, ℕ, List, length, arith, subst, sym, ap, ◌∙◌, inl, inr}
-use Rattle.std.specs.Prelude.{◌⊎◌, Option, codes, slice_index}
-use Rattle.std.specs.Io.KnownBytes.{IsAtEnd}
+use Rattle.std.proofs.Common.{◌≡◌, ◌≢◌, ℕ, List, length, arith, subst, sym, ap, ◌∙◌}
+use Rattle.std.specs.Prelude.{Option, slice_index}
+use Rattle.edge.specs.Streams.{Exceeds}
+use Rattle.merge_model.specs.declared.problem.Problem.{Problem}
+use Rattle.merge_model.specs.Answers.{profile_of}
+use Rattle.merge_model.specs.Merging.{LacksModel}
+use Rattle.merge_model.specs.OperatorWords.{distance_word, aggregator_word}
+use Rattle.merge_model.proofs.OperatorWords.{one_distance, one_aggregator}
 use Rattle.merge_model.specs.declared.operator.DistanceName.{DistanceName}
 use Rattle.merge_model.specs.declared.operator.AggregatorName.{AggregatorName}
 use Rattle.problem_reading.specs.declared.stop.TextFault.{TextFault}
-use Rattle.merge_cli.specs.declared.forms.Form.{Form}
-use Rattle.merge_cli.specs.declared.forms.Form.TheVariants.{Merge}
-use Rattle.merge_cli.specs.Forms.{IsFormOf, IsNoForm}
-use Rattle.merge_cli.specs.Merge.{most_bytes, MergeAnswers, too_long, of_text, refused, not_built, of_problem, merged, inconsistent}
-use Rattle.merge_cli.specs.Refusals.{refusal_text}
-use Rattle.merge_cli.specs.Answers.{Answers, Answered, refused_words, of_command, ReadsProblem, IsProblemCommand}
+use Rattle.merge_cli.specs.declared.commands.Command.{Command}
+use Rattle.merge_cli.specs.declared.commands.Command.TheVariants.{Merge}
+use Rattle.merge_cli.specs.Commands.{IsCommand, IsNoCommand, limit_of, Reads, ReadsProblem}
+use Rattle.merge_cli.specs.Merge.{not_built, merged, inconsistent}
+use Rattle.merge_cli.specs.Refusals.{refusal_text, too_long_text}
+use Rattle.merge_cli.specs.Rows.{ReadAnswers, too_long, of_text, ProblemTextAnswers, refused, of_problem}
+use Rattle.merge_cli.specs.Answers.{ProblemAnswers, TextAnswers, CommandAnswers, Answers, refused_words, of_command, IsTooMuch}
+use Rattle.merge_cli.proofs.Problems.{merge_lacks, merge_lacks_none}
 
--- the statuses of merge
-merge_status : (d : DistanceName) (a : AggregatorName) (now : Option (List ℕ)) (read : List ℕ) (status : ℕ) (text : List ℕ)
-    → MergeAnswers d a now read status text → (status ≤ 1) ⊎ (8 ≤ status)
-merge_status d a now read s text (too_long long status said) = inl (omega arith)
-merge_status d a now read s text (of_text end short (refused fault first status said)) = inl (omega arith)
-merge_status d a now read s text (of_text end short (not_built unbuilt status said)) = inr (omega arith)
-merge_status d a now read s text (of_text end short (of_problem p spelled few (merged status reports))) = inl (omega arith)
-merge_status d a now read s text (of_text end short (of_problem p spelled few (inconsistent status reports))) = inr (omega arith)
+-- The commands, one case each.
+
+pub reads_text : (command : Command) → ReadsProblem command → Reads command
+reads_text (Merge d a) reads = tt
+
+pub reading_row : (command : Command) (now : Option (List ℕ)) (read : List ℕ) (status : ℕ) (text : List ℕ) → Reads command
+    → CommandAnswers command now read status text → ReadAnswers (limit_of command) (TextAnswers command) now read status text
+reading_row (Merge d a) now read s text reads row = row
+
+pub text_row : (command : Command) (read : List ℕ) (status : ℕ) (text : List ℕ) → ReadsProblem command
+    → TextAnswers command read status text → ProblemTextAnswers (ProblemAnswers command) read status text
+text_row (Merge d a) read s text reads row = row
+
+pub lacks : (command : Command) (problem : Problem) (status : ℕ) (text : List ℕ) → ProblemAnswers command problem status text
+    → status ≡ 8 → LacksModel (profile_of problem)
+lacks (Merge d a) = merge_lacks d a
+
+pub lacks_none : (command : Command) (problem : Problem) (status : ℕ) (text : List ℕ) → ProblemAnswers command problem status text
+    → status ≡ 0 → LacksModel (profile_of problem) → ⊥
+lacks_none (Merge d a) = merge_lacks_none d a
+
+-- a status that a command answers: not that of refused words, and none that stops a run
+pub record IsOwn (status : ℕ) : Type 0 where
+  pub not_words : status ≢ 2
+  pub not_read : status ≢ 4
+  pub not_written : status ≢ 5
+  pub not_memory : status ≢ 6
+
+own_problem : (command : Command) (problem : Problem) (status : ℕ) (text : List ℕ) → ProblemAnswers command problem status text → IsOwn status
+own_problem (Merge d a) p s text (not_built many status said) =
+    record { not_words = λ e. omega arith; not_read = λ e. omega arith; not_written = λ e. omega arith; not_memory = λ e. omega arith }
+own_problem (Merge d a) p s text (merged few status reports) =
+    record { not_words = λ e. omega arith; not_read = λ e. omega arith; not_written = λ e. omega arith; not_memory = λ e. omega arith }
+own_problem (Merge d a) p s text (inconsistent few status reports) =
+    record { not_words = λ e. omega arith; not_read = λ e. omega arith; not_written = λ e. omega arith; not_memory = λ e. omega arith }
+
+-- a problem is not answered as a text is that is too long or has a fault
+pub not_refused : (command : Command) (problem : Problem) (status : ℕ) (text : List ℕ) → ProblemAnswers command problem status text
+    → status ≡ 1 → (text ≢ too_long_text) × ((fault : TextFault) → text ≢ refusal_text fault)
+not_refused (Merge d a) p s text (not_built many status said) one = absurd (omega arith)
+not_refused (Merge d a) p s text (merged few status reports) one = absurd (omega arith)
+not_refused (Merge d a) p s text (inconsistent few status reports) one = absurd (omega arith)
+
+-- From here on no proof of a problem command speaks of one command.
+
+own_refusal : (status : ℕ) → status ≡ 1 → IsOwn status
+own_refusal s one = record { not_words = λ e. omega arith; not_read = λ e. omega arith; not_written = λ e. omega arith; not_memory = λ e. omega arith }
+
+own_text : (command : Command) (read : List ℕ) (status : ℕ) (text : List ℕ) → ProblemTextAnswers (ProblemAnswers command) read status text → IsOwn status
+own_text command read s text (refused fault first status said) = own_refusal s status
+own_text command read s text (of_problem p spelled row) = own_problem command p s text row
+
+own_reading : (command : Command) (now : Option (List ℕ)) (read : List ℕ) (status : ℕ) (text : List ℕ) → ReadsProblem command
+    → ReadAnswers (limit_of command) (TextAnswers command) now read status text → IsOwn status
+own_reading command now read s text reads (too_long long status said) = own_refusal s status
+own_reading command now read s text reads (of_text end few row) = own_text command read s text (text_row command read s text reads row)
+
+own_command : (command : Command) (now : Option (List ℕ)) (read : List ℕ) (status : ℕ) (text : List ℕ) → CommandAnswers command now read status text → IsOwn status
+own_command (Merge d a) now read s text row = own_reading (Merge d a) now read s text tt row
 
 pub refused_comes : (words : List (List ℕ)) (now : Option (List ℕ)) (read : List ℕ) (status : ℕ) (text : List ℕ)
-    → Answers words now read status text → IsNoForm words → status ≡ 2
-refused_comes words now read s text (refused_words none unread two said) noform = two
-refused_comes words now read s text (of_command form of row) noform = absurd (noform form of)
+    → Answers words now read status text → IsNoCommand words → status ≡ 2
+refused_comes words now read s text (refused_words none unread two said) no_command = two
+refused_comes words now read s text (of_command command of row) no_command = absurd (no_command command of)
 
-pub refused_only : (words : List (List ℕ)) (now : Option (List ℕ)) (read : List ℕ) (text : List ℕ)
-    → Answers words now read 2 text → IsNoForm words
-refused_only words now read text (refused_words none unread two said) = none
-refused_only words now read text (of_command (Merge d a) of row) =
-    absurd (elim (merge_status d a now read 2 text row) [ inl low ↦ omega arith | inr high ↦ omega arith ])
+pub refused_only : (words : List (List ℕ)) (now : Option (List ℕ)) (read : List ℕ) (status : ℕ) (text : List ℕ)
+    → Answers words now read status text → status ≡ 2 → IsNoCommand words
+refused_only words now read s text (refused_words none unread status said) two = none
+refused_only words now read s text (of_command command of row) two = absurd ((own_command command now read s text row).not_words two)
 
 -- what stops a run is no answer
 pub no_stop : (words : List (List ℕ)) (now : Option (List ℕ)) (read : List ℕ) (status : ℕ) (text : List ℕ)
     → Answers words now read status text → (status ≢ 4) × (status ≢ 5) × (status ≢ 6)
 no_stop words now read s text (refused_words none unread two said) = (λ e. omega arith, λ e. omega arith, λ e. omega arith)
-no_stop words now read s text (of_command (Merge d a) of row) =
-    elim (merge_status d a now read s text row) [
-      | inl low ↦ (λ e. omega arith, λ e. omega arith, λ e. omega arith)
-      | inr high ↦ (λ e. omega arith, λ e. omega arith, λ e. omega arith)
-    ]
+no_stop words now read s text (of_command command of row) =
+    let own = own_command command now read s text row in (own.not_read, own.not_written, own.not_memory)
 
 -- a refusal that names a line is another text than `too long`
-names_a_line : (fault : TextFault) → codes "refused: too long\n" ≡ refusal_text fault → ⊥
+pub names_a_line : (fault : TextFault) → too_long_text ≢ refusal_text fault
 names_a_line fault same = let colon : 58 ≡ 32 = ap (λ (text : List ℕ). slice_index text 7) same in omega (arith, colon)
 
-pub too_long_comes : (words : List (List ℕ)) (form : Form) (now : Option (List ℕ)) (read : List ℕ) (status : ℕ) (text : List ℕ)
-    → Answers words now read status text → IsFormOf words form → ReadsProblem form → most_bytes < length read
-    → (status ≡ 1) × (text ≡ codes "refused: too long\n")
-too_long_comes words form now read s text (refused_words none unread two said) of reads long = absurd (none form of)
-too_long_comes words form now read s text (of_command (Merge d a) of (too_long long status said)) of_form reads longer = (status, said)
-too_long_comes words form now read s text (of_command (Merge d a) of (of_text end short row)) of_form reads long = absurd (omega arith)
+too_long_reading : (command : Command) (now : Option (List ℕ)) (read : List ℕ) (status : ℕ) (text : List ℕ) → ReadsProblem command
+    → ReadAnswers (limit_of command) (TextAnswers command) now read status text → status ≡ 1 → text ≡ too_long_text → Exceeds (limit_of command) (length read)
+too_long_reading command now read s text reads (too_long long status said) one says = long
+too_long_reading command now read s text reads (of_text end few row) one says =
+    absurd (elim (text_row command read s text reads row) [
+      | refused fault first status said ↦ names_a_line fault (sym says ∙ said)
+      | of_problem p spelled answer ↦ (not_refused command p s text answer one).0 says
+    ])
 
-pub too_long_only : (words : List (List ℕ)) (now : Option (List ℕ)) (read : List ℕ) (text : List ℕ)
-    → Answers words now read 1 text → text ≡ codes "refused: too long\n" → most_bytes < length read
-too_long_only words now read text (refused_words none unread two said) says = absurd (omega arith)
-too_long_only words now read text (of_command (Merge d a) of (too_long long status said)) says = long
-too_long_only words now read text (of_command (Merge d a) of (of_text end short (refused fault first status said))) says =
-    absurd (names_a_line fault (sym says ∙ said))
-too_long_only words now read text (of_command (Merge d a) of (of_text end short (not_built unbuilt status said))) says = absurd (omega arith)
-too_long_only words now read text (of_command (Merge d a) of (of_text end short (of_problem p spelled few (merged status reports)))) says = absurd (omega arith)
-too_long_only words now read text (of_command (Merge d a) of (of_text end short (of_problem p spelled few (inconsistent status reports)))) says = absurd (omega arith)
+too_long_command : (command : Command) (now : Option (List ℕ)) (read : List ℕ) (status : ℕ) (text : List ℕ)
+    → CommandAnswers command now read status text → status ≡ 1 → text ≡ too_long_text → Exceeds (limit_of command) (length read)
+too_long_command (Merge d a) now read s text row = too_long_reading (Merge d a) now read s text tt row
 
--- a refusal by status 1 comes from a command over a problem text
-problem_command : (words : List (List ℕ)) (now : Option (List ℕ)) (read : List ℕ) (text : List ℕ)
-    → Answers words now read 1 text → IsProblemCommand words
-problem_command words now read text (refused_words none unread two said) = absurd (omega arith)
-problem_command words now read text (of_command (Merge d a) of row) = (Merge d a, of, tt)
+long_command : (command : Command) (now : Option (List ℕ)) (read : List ℕ) (status : ℕ) (text : List ℕ)
+    → CommandAnswers command now read status text → Exceeds (limit_of command) (length read) → (status ≡ 1) × (text ≡ too_long_text)
+long_command (Merge d a) now read s text (too_long long status said) longer = (status, said)
+long_command (Merge d a) now read s text (of_text end few row) longer = absurd (few longer)
 
-end_of : (words : List (List ℕ)) (now : Option (List ℕ)) (read : List ℕ) (status : ℕ) (text : List ℕ)
-    → Answers words now read status text → length read ≤ most_bytes → IsProblemCommand words → IsAtEnd now
-end_of words now read s text (refused_words none unread two said) short asks = absurd (none asks.0 asks.1)
-end_of words now read s text (of_command (Merge d a) of (too_long long status said)) short asks = absurd (omega arith)
-end_of words now read s text (of_command (Merge d a) of (of_text end few row)) short asks = end
+pub too_long_only : (words : List (List ℕ)) (now : Option (List ℕ)) (read : List ℕ) (status : ℕ) (text : List ℕ)
+    → Answers words now read status text → status ≡ 1 → text ≡ too_long_text → IsTooMuch words (length read)
+too_long_only words now read s text (refused_words none unread two said) one says = absurd (omega arith)
+too_long_only words now read s text (of_command command of row) one says = (command, of, too_long_command command now read s text row one says)
 
--- the same, of a whole run
-pub refused_exact : (words : List (List ℕ)) (before now : Option (List ℕ)) (room_before room_now status : ℕ) (text : List ℕ)
-    → Answered (Answers words) before now room_before room_now status text → (status ≡ 2) ↔ IsNoForm words
-refused_exact words before now room_before room_now status text answered =
-    let P : ℕ → Type 0 = λ s. Answers words now answered.read s text in (
-      (λ two. refused_only words now answered.read text (subst P two answered.answers)),
-      (λ none. refused_comes words now answered.read status text answered.answers none),
-    )
+-- words are those of one command at most
+one_command : (words : List (List ℕ)) (command other : Command) → IsCommand words command → IsCommand words other → command ≡ other
+one_command words (Merge d a) (Merge e b) of of_other =
+    let distance : distance_word d ≡ distance_word e = cc in
+    let aggregator : aggregator_word a ≡ aggregator_word b = cc in
+    ap (λ (n : DistanceName). Merge n a) (one_distance d e distance) ∙ ap (λ (n : AggregatorName). Merge e n) (one_aggregator a b aggregator)
 
-pub too_long_exact : (words : List (List ℕ)) (before now : Option (List ℕ)) (room_before room_now status : ℕ) (text : List ℕ)
-    → Answered (Answers words) before now room_before room_now status text
-    → ((status ≡ 1) × (text ≡ codes "refused: too long\n")) ↔ (IsProblemCommand words × (most_bytes < room_before - room_now))
-too_long_exact words before now room_before room_now status text answered =
-    let P : ℕ → Type 0 = λ s. Answers words now answered.read s text in (
-      (λ said.
-          let row = subst P said.0 answered.answers in
-          let long = too_long_only words now answered.read text row said.1 in
-          (problem_command words now answered.read text row, omega (arith, answered.gave.count))),
-      (λ long. too_long_comes words long.0.0 now answered.read status text answered.answers long.0.1 long.0.2 (omega (arith, answered.gave.count))),
-    )
+-- the row of the table that a run of this command has
+pub row_of : (words : List (List ℕ)) (command : Command) (now : Option (List ℕ)) (read : List ℕ) (status : ℕ) (text : List ℕ)
+    → IsCommand words command → Answers words now read status text → CommandAnswers command now read status text
+row_of words command now read s text of (refused_words none unread two said) = absurd (none command of)
+row_of words command now read s text of (of_command other of_other row) =
+    let P : Command → Type 0 = λ c. CommandAnswers c now read s text in subst P (one_command words other command of_other of) row
 
--- a text that is not too long was read to its end
-pub answered_at_end : (words : List (List ℕ)) (before now : Option (List ℕ)) (room_before room_now status : ℕ) (text : List ℕ)
-    → Answered (Answers words) before now room_before room_now status text
-    → IsProblemCommand words → room_before - room_now ≤ most_bytes → IsAtEnd now
-answered_at_end words before now room_before room_now status text answered asks short =
-    end_of words now answered.read status text answered.answers (omega (arith, answered.gave.count)) asks
+pub too_long_comes : (words : List (List ℕ)) (command : Command) (now : Option (List ℕ)) (read : List ℕ) (status : ℕ) (text : List ℕ)
+    → Answers words now read status text → IsCommand words command → Exceeds (limit_of command) (length read) → (status ≡ 1) × (text ≡ too_long_text)
+too_long_comes words command now read s text (refused_words none unread two said) is longer = absurd (none command is)
+too_long_comes words command now read s text (of_command other of row) is longer = long_command command now read s text (row_of words command now read s text is (of_command other of row)) longer

@@ -1,56 +1,29 @@
--- What a run answers where its source tells its bytes.
-use Rattle.std.proofs.Common.{◌≡◌, ◌≢◌, ◌<◌, ◌≤◌, ℕ, List, ◌++◌, length, arith, subst, sym, ap, ◌∙◌, refl, append-nil, length-append, inl, inr}
-use Rattle.std.specs.Prelude.{◌⊎◌, Option, Some, None, slice_index}
+-- What a run answers, and where its source tells its bytes, what it answers to them.
+use Rattle.std.proofs.Common.{◌≡◌, ◌≢◌, ◌≤◌, ◌+◌, ◌-◌, ◌↔◌, ℕ, List, ◌++◌, length, arith, subst, sym, ap, ◌∙◌, append-nil, length-append, inl, inr}
+use Rattle.std.specs.Prelude.{◌⊎◌, Option, Some, None}
 use Rattle.std.specs.Io.KnownBytes.{Consumes, IsAtEnd}
+use Rattle.edge.specs.Streams.{Exceeds}
 use Rattle.merge_model.specs.declared.operator.DistanceName.{DistanceName}
-use Rattle.merge_model.specs.declared.operator.DistanceName.TheVariants.{Drastic, Hamming}
 use Rattle.merge_model.specs.declared.operator.AggregatorName.{AggregatorName}
-use Rattle.merge_model.specs.declared.operator.AggregatorName.TheVariants.{Sum, Max, Leximax}
 use Rattle.merge_model.specs.declared.problem.Problem.{Problem}
 use Rattle.merge_model.specs.Answers.{profile_of}
 use Rattle.merge_model.specs.Merging.{LacksModel}
 use Rattle.problem_reading.specs.declared.stop.TextFault.{TextFault}
 use Rattle.problem_reading.specs.Spelling.{Spelled, FirstFault}
 use Rattle.problem_laws.proofs.TextLaws.{spelled_or_faulty}
-use Rattle.merge_cli.proofs.Problems.{named_has, right_lacks_none}
+use Rattle.merge_cli.specs.declared.commands.Command.{Command}
+use Rattle.merge_cli.specs.declared.commands.Command.TheVariants.{Merge}
+use Rattle.merge_cli.specs.Commands.{IsCommand, IsNoCommand, limit_of, ReadsProblem}
+use Rattle.merge_cli.specs.Merge.{MergeAnswers, ReportsMerge, ReportsLack, not_built, merged, inconsistent}
+use Rattle.merge_cli.specs.Refusals.{refusal_text, too_long_text}
+use Rattle.merge_cli.specs.Rows.{ReadAnswers, too_long, of_text, refused, of_problem}
+use Rattle.merge_cli.specs.Answers.{ProblemAnswers, TextAnswers, Answers, Answered, IsTooMuch, AsksText, AsksProblem}
+use Rattle.merge_cli.proofs.Laws.{reads_text, reading_row, text_row, lacks, lacks_none, not_refused, refused_comes, refused_only, too_long_comes, too_long_only, names_a_line, row_of}
 use Rattle.merge_cli.proofs.SameProblems.{equal_problems, equal_refusals}
-use Rattle.merge_cli.specs.declared.forms.Form.{Form}
-use Rattle.merge_cli.specs.declared.forms.Form.TheVariants.{Merge}
-use Rattle.merge_cli.specs.Forms.{IsFormOf, distance_word, aggregator_word}
-use Rattle.merge_cli.specs.Merge.{most_bytes, most_atoms, IsNotBuilt, ReportsMerge, ReportsLack, MergeAnswers, too_long, of_text, refused, not_built, of_problem, merged, inconsistent}
-use Rattle.merge_cli.specs.Refusals.{refusal_text}
-use Rattle.merge_cli.specs.Answers.{Answers, Answered, CommandAnswers, refused_words, of_command}
 
-same_distance : (d e : DistanceName) → distance_word d ≡ distance_word e → d ≡ e
-same_distance Drastic Drastic same = refl
-same_distance Hamming Hamming same = refl
-same_distance Drastic Hamming same = absurd (let first : 100 ≡ 104 = ap (λ (w : List ℕ). slice_index w 0) same in omega (arith, first))
-same_distance Hamming Drastic same = absurd (let first : 104 ≡ 100 = ap (λ (w : List ℕ). slice_index w 0) same in omega (arith, first))
-
-same_aggregator : (a b : AggregatorName) → aggregator_word a ≡ aggregator_word b → a ≡ b
-same_aggregator Sum Sum same = refl
-same_aggregator Max Max same = refl
-same_aggregator Leximax Leximax same = refl
-same_aggregator Sum Max same = absurd (let first : 115 ≡ 109 = ap (λ (w : List ℕ). slice_index w 0) same in omega (arith, first))
-same_aggregator Sum Leximax same = absurd (let first : 115 ≡ 108 = ap (λ (w : List ℕ). slice_index w 0) same in omega (arith, first))
-same_aggregator Max Sum same = absurd (let first : 109 ≡ 115 = ap (λ (w : List ℕ). slice_index w 0) same in omega (arith, first))
-same_aggregator Max Leximax same = absurd (let first : 109 ≡ 108 = ap (λ (w : List ℕ). slice_index w 0) same in omega (arith, first))
-same_aggregator Leximax Sum same = absurd (let first : 108 ≡ 115 = ap (λ (w : List ℕ). slice_index w 0) same in omega (arith, first))
-same_aggregator Leximax Max same = absurd (let first : 108 ≡ 109 = ap (λ (w : List ℕ). slice_index w 0) same in omega (arith, first))
-
--- words are those of one form at most
-one_form : (words : List (List ℕ)) (form other : Form) → IsFormOf words form → IsFormOf words other → form ≡ other
-one_form words (Merge d a) (Merge e b) of of_other =
-    let distance : distance_word d ≡ distance_word e = cc in
-    let aggregator : aggregator_word a ≡ aggregator_word b = cc in
-    ap (λ (n : DistanceName). Merge n a) (same_distance d e distance) ∙ ap (λ (n : AggregatorName). Merge e n) (same_aggregator a b aggregator)
-
--- the row of the table that a run of this form has
-row_of : (words : List (List ℕ)) (form : Form) (now : Option (List ℕ)) (read : List ℕ) (status : ℕ) (text : List ℕ)
-    → IsFormOf words form → Answers words now read status text → CommandAnswers form now read status text
-row_of words form now read status text of (refused_words none unread two said) = absurd (none form of)
-row_of words form now read status text of (of_command other of_other row) =
-    let P : Form → Type 0 = λ f. CommandAnswers f now read status text in subst P (one_form words other form of_other of) row
+exceeds_more : (limit : Option ℕ) (m n : ℕ) → m ≤ n → Exceeds limit m → Exceeds limit n
+exceeds_more None m n h long = long
+exceeds_more (Some most) m n h long = omega arith
 
 -- the bytes that were read to the end are those that were left
 all_read : (bytes : List ℕ) (now : Option (List ℕ)) (read : List ℕ) → Consumes (Some bytes) now read → IsAtEnd now → read ≡ bytes
@@ -58,92 +31,121 @@ all_read bytes None read lost end = absurd lost
 all_read bytes (Some rest) read lost end = sym (lost ∙ ap (λ (r : List ℕ). read ++ r) end ∙ append-nil read)
 
 -- a row for what was read is one for the bytes that were left
-row_of_all : (d : DistanceName) (a : AggregatorName) (bytes : List ℕ) (now : Option (List ℕ)) (read : List ℕ) (status : ℕ) (text : List ℕ)
-    → Consumes (Some bytes) now read → MergeAnswers d a now read status text → MergeAnswers d a now bytes status text
-row_of_all d a bytes None read s text lost row = absurd lost
-row_of_all d a bytes (Some rest) read s text lost (too_long long status said) =
-    too_long (let whole = ap (λ (b : List ℕ). length b) lost in omega (arith, whole, length-append read rest)) status said
-row_of_all d a bytes (Some rest) read s text lost (of_text end short row) =
-    let P : List ℕ → Type 0 = λ b. MergeAnswers d a (Some rest) b s text in
-    subst P (all_read bytes (Some rest) read lost end) (of_text end short row)
+row_of_all : (limit : Option ℕ) (answers : List ℕ → ℕ → List ℕ → Type 0) (bytes : List ℕ) (now : Option (List ℕ)) (read : List ℕ) (status : ℕ) (text : List ℕ)
+    → Consumes (Some bytes) now read → ReadAnswers limit answers now read status text → ReadAnswers limit answers now bytes status text
+row_of_all limit answers bytes None read s text lost row = absurd lost
+row_of_all limit answers bytes (Some rest) read s text lost (too_long long status said) =
+    let whole : length bytes ≡ length read + length rest = ap (λ (b : List ℕ). length b) lost ∙ length-append read rest in
+    too_long (exceeds_more limit (length read) (length bytes) (omega arith) long) status said
+row_of_all limit answers bytes (Some rest) read s text lost (of_text end few row) =
+    let P : List ℕ → Type 0 = λ b. ReadAnswers limit answers (Some rest) b s text in
+    subst P (all_read bytes (Some rest) read lost end) (of_text end few row)
 
-pub told_row : (words : List (List ℕ)) (before now : Option (List ℕ)) (room_before room_now status : ℕ) (text : List ℕ)
-    → Answered (Answers words) before now room_before room_now status text
-    → (bytes : List ℕ) (d : DistanceName) (a : AggregatorName) → before ≡ Some bytes → IsFormOf words (Merge d a)
-    → MergeAnswers d a now bytes status text
-told_row words before now room_before room_now status text answered bytes d a told of =
-    let row = row_of words (Merge d a) now answered.read status text of answered.answers in
-    let P : Option (List ℕ) → Type 0 = λ left. Consumes left now answered.read in
-    row_of_all d a bytes now answered.read status text (subst P told answered.gave.known) row
+-- a problem has the row of the bytes that spell it, unless these are too long
+problem_row : (command : Command) (bytes : List ℕ) (now : Option (List ℕ)) (status : ℕ) (text : List ℕ) (problem : Problem) → ReadsProblem command
+    → ReadAnswers (limit_of command) (TextAnswers command) now bytes status text → Spelled bytes problem
+    → ((status ≡ 1) × Exceeds (limit_of command) (length bytes)) ⊎ ProblemAnswers command problem status text
+problem_row command bytes now s text p reads (too_long long status said) spelled = inl (status, long)
+problem_row command bytes now s text p reads (of_text end few row) spelled =
+    elim (text_row command bytes s text reads row) [
+      | refused fault first status said ↦ absurd (spelled_or_faulty bytes p fault spelled first)
+      | of_problem q is answer ↦ (let P : Problem → Type 0 = λ r. ProblemAnswers command r s text in inr (subst P (equal_problems bytes q p is spelled) answer))
+    ]
 
-module _ (d : DistanceName) (a : AggregatorName) (now : Option (List ℕ)) (bytes : List ℕ) where
-  pub row_merged : (status : ℕ) (text : List ℕ) (problem : Problem)
-      → MergeAnswers d a now bytes status text → Spelled bytes problem → status ≡ 0 → ReportsMerge d a problem text
-  row_merged s text p (too_long long status said) spelled zero_status = absurd (omega arith)
-  row_merged s text p (of_text end short (refused fault first status said)) spelled zero_status = absurd (omega arith)
-  row_merged s text p (of_text end short (not_built unbuilt status said)) spelled zero_status = absurd (omega arith)
-  row_merged s text p (of_text end short (of_problem q is few (inconsistent status reports))) spelled zero_status = absurd (omega arith)
-  row_merged s text p (of_text end short (of_problem q is few (merged status reports))) spelled zero_status =
-      let P : Problem → Type 0 = λ r. ReportsMerge d a r text in subst P (equal_problems bytes q p is spelled) reports
+-- what `merge` answers with status 0, and with status 8
+merged_row : (d : DistanceName) (a : AggregatorName) (problem : Problem) (status : ℕ) (text : List ℕ)
+    → MergeAnswers d a problem status text → status ≡ 0 → ReportsMerge d a problem text
+merged_row d a p s text (not_built many status said) none = absurd (omega arith)
+merged_row d a p s text (inconsistent few status reports) none = absurd (omega arith)
+merged_row d a p s text (merged few status reports) none = reports
 
-  pub row_lacking : (status : ℕ) (text : List ℕ) (problem : Problem)
-      → MergeAnswers d a now bytes status text → Spelled bytes problem → status ≡ 8 → ReportsLack d a problem text
-  row_lacking s text p (too_long long status said) spelled eight = absurd (omega arith)
-  row_lacking s text p (of_text end short (refused fault first status said)) spelled eight = absurd (omega arith)
-  row_lacking s text p (of_text end short (not_built unbuilt status said)) spelled eight = absurd (omega arith)
-  row_lacking s text p (of_text end short (of_problem q is few (merged status reports))) spelled eight = absurd (omega arith)
-  row_lacking s text p (of_text end short (of_problem q is few (inconsistent status reports))) spelled eight =
-      let P : Problem → Type 0 = λ r. ReportsLack d a r text in subst P (equal_problems bytes q p is spelled) reports
+lacking_row : (d : DistanceName) (a : AggregatorName) (problem : Problem) (status : ℕ) (text : List ℕ)
+    → MergeAnswers d a problem status text → status ≡ 8 → ReportsLack d a problem text
+lacking_row d a p s text (not_built many status said) eight = absurd (omega arith)
+lacking_row d a p s text (merged few status reports) eight = absurd (omega arith)
+lacking_row d a p s text (inconsistent few status reports) eight = reports
 
-  pub row_lacks : (status : ℕ) (text : List ℕ) (problem : Problem)
-      → MergeAnswers d a now bytes status text → Spelled bytes problem → status ≡ 8 → LacksModel (profile_of problem)
-  row_lacks s text p row spelled eight =
-      let reports = row_lacking s text p row spelled eight in named_has p reports.answer reports.named
+-- what a whole run says
+module _ (words : List (List ℕ)) (before now : Option (List ℕ)) (room_before room_now status : ℕ) (text : List ℕ)
+    (answered : Answered (Answers words) before now room_before room_now status text) where
+  given : length answered.read ≡ room_before - room_now
+  given = omega (arith, answered.gave.count)
 
-  pub row_lacking_not_merged : (status : ℕ) (text : List ℕ) (problem : Problem)
-      → MergeAnswers d a now bytes status text → Spelled bytes problem → LacksModel (profile_of problem) → status ≢ 0
-  row_lacking_not_merged s text p row spelled lacks = λ zero_status.
-      let reports = row_merged s text p row spelled zero_status in right_lacks_none d a p reports.answer reports.right lacks
+  pub refused_words_run : (status ≡ 2) ↔ IsNoCommand words
+  refused_words_run = (
+    refused_only words now answered.read status text answered.answers,
+    refused_comes words now answered.read status text answered.answers,
+  )
 
-  pub row_refused : (status : ℕ) (text : List ℕ) (fault : TextFault)
-      → MergeAnswers d a now bytes status text → FirstFault bytes fault → length bytes ≤ most_bytes
-      → (status ≡ 1) × (text ≡ refusal_text fault)
-  row_refused s text fault (too_long long status said) first few = absurd (omega arith)
-  row_refused s text fault (of_text end short (not_built unbuilt status said)) first few = absurd (spelled_or_faulty bytes unbuilt.0 fault unbuilt.1 first)
-  row_refused s text fault (of_text end short (of_problem q is small row)) first few = absurd (spelled_or_faulty bytes q fault is first)
-  row_refused s text fault (of_text end short (refused other found status said)) first few =
-      (status, said ∙ equal_refusals bytes other fault found first)
+  pub too_long_run : ((status ≡ 1) × (text ≡ too_long_text)) ↔ IsTooMuch words (room_before - room_now)
+  too_long_run = (
+    (λ said. subst (IsTooMuch words) given (too_long_only words now answered.read status text answered.answers said.0 said.1)),
+    (λ much.
+        too_long_comes words much.0 now answered.read status text answered.answers much.1
+        (subst (Exceeds (limit_of much.0)) (sym given) much.2)),
+  )
 
-  pub row_refused_only : (status : ℕ) (text : List ℕ)
-      → MergeAnswers d a now bytes status text → status ≡ 1 → length bytes ≤ most_bytes
-      → (fault : TextFault) × FirstFault bytes fault × (text ≡ refusal_text fault)
-  row_refused_only s text (too_long long status said) one few = absurd (omega arith)
-  row_refused_only s text (of_text end short (not_built unbuilt status said)) one few = absurd (omega arith)
-  row_refused_only s text (of_text end short (of_problem q is small (merged status reports))) one few = absurd (omega arith)
-  row_refused_only s text (of_text end short (of_problem q is small (inconsistent status reports))) one few = absurd (omega arith)
-  row_refused_only s text (of_text end short (refused fault first status said)) one few = (fault, first, said)
+  pub at_end_run : (command : Command) → IsCommand words command → ReadsProblem command → ¬ (Exceeds (limit_of command) (room_before - room_now)) → IsAtEnd now
+  at_end_run command of reads few =
+      elim (reading_row command now answered.read status text (reads_text command reads) (row_of words command now answered.read status text of answered.answers)) [
+        | too_long long one said ↦ absurd (few (subst (Exceeds (limit_of command)) given long))
+        | of_text end short row ↦ end
+      ]
 
-  pub row_not_built : (status : ℕ) (text : List ℕ)
-      → MergeAnswers d a now bytes status text → status ≡ 9 → (length bytes ≤ most_bytes) × IsNotBuilt bytes
-  row_not_built s text (too_long long status said) nine = absurd (omega arith)
-  row_not_built s text (of_text end short (refused fault first status said)) nine = absurd (omega arith)
-  row_not_built s text (of_text end short (of_problem q is small (merged status reports))) nine = absurd (omega arith)
-  row_not_built s text (of_text end short (of_problem q is small (inconsistent status reports))) nine = absurd (omega arith)
-  row_not_built s text (of_text end short (not_built unbuilt status said)) nine = (short, unbuilt)
+  pub told_run : (command : Command) (bytes : List ℕ) → AsksText before words command bytes
+      → ReadAnswers (limit_of command) (TextAnswers command) now bytes status text
+  told_run command bytes asks =
+      let P : Option (List ℕ) → Type 0 = λ left. Consumes left now answered.read in
+      row_of_all (limit_of command) (TextAnswers command) bytes now answered.read status text (subst P asks.0 answered.gave.known)
+      (reading_row command now answered.read status text (reads_text command asks.2) (row_of words command now answered.read status text asks.1 answered.answers))
 
-  -- what a text of a problem may be answered
-  pub row_spelled : (status : ℕ) (text : List ℕ) (problem : Problem)
-      → MergeAnswers d a now bytes status text → Spelled bytes problem → length bytes ≤ most_bytes
-      → ((length problem.atoms ≤ most_atoms) × ((status ≡ 0) ⊎ (status ≡ 8))) ⊎ ((most_atoms < length problem.atoms) × (status ≡ 9))
-  row_spelled s text p (too_long long status said) spelled few = absurd (omega arith)
-  row_spelled s text p (of_text end short (refused fault first status said)) spelled few =
-      absurd (spelled_or_faulty bytes p fault spelled first)
-  row_spelled s text p (of_text end short (not_built unbuilt status said)) spelled few =
-      let P : Problem → Type 0 = λ r. most_atoms < length r.atoms in
-      inr (subst P (equal_problems bytes unbuilt.0 p unbuilt.1 spelled) unbuilt.2, status)
-  row_spelled s text p (of_text end short (of_problem q is small (merged status reports))) spelled few =
-      let P : Problem → Type 0 = λ r. length r.atoms ≤ most_atoms in
-      inl (subst P (equal_problems bytes q p is spelled) small, inl status)
-  row_spelled s text p (of_text end short (of_problem q is small (inconsistent status reports))) spelled few =
-      let P : Problem → Type 0 = λ r. length r.atoms ≤ most_atoms in
-      inl (subst P (equal_problems bytes q p is spelled) small, inr status)
+  pub refused_run : (command : Command) (bytes : List ℕ) → AsksText before words command bytes → (fault : TextFault) → FirstFault bytes fault
+      → ¬ (Exceeds (limit_of command) (length bytes)) → (status ≡ 1) × (text ≡ refusal_text fault)
+  refused_run command bytes asks fault first few =
+      elim (told_run command bytes asks) [
+        | too_long long one said ↦ absurd (few long)
+        | of_text end short row ↦ elim (text_row command bytes status text asks.2 row) [
+          | refused other found one said ↦ (one, said ∙ equal_refusals bytes other fault found first)
+          | of_problem p is answer ↦ absurd (spelled_or_faulty bytes p fault is first)
+        ]
+      ]
+
+  pub refused_only_run : (command : Command) (bytes : List ℕ) → AsksText before words command bytes → (fault : TextFault)
+      → status ≡ 1 → text ≡ refusal_text fault → (first : TextFault) × FirstFault bytes first × (refusal_text first ≡ refusal_text fault)
+  refused_only_run command bytes asks fault one says =
+      elim (told_run command bytes asks) [
+        | too_long long is said ↦ absurd (names_a_line fault (sym said ∙ says))
+        | of_text end short row ↦ elim (text_row command bytes status text asks.2 row) [
+          | refused first found is said ↦ (first, found, sym said ∙ says)
+          | of_problem p is answer ↦ absurd ((not_refused command p status text answer one).1 fault says)
+        ]
+      ]
+
+  pub problem_run : (command : Command) (bytes : List ℕ) → AsksText before words command bytes → (problem : Problem) → Spelled bytes problem
+      → ¬ (Exceeds (limit_of command) (length bytes)) → ProblemAnswers command problem status text
+  problem_run command bytes asks problem spelled few =
+      elim (problem_row command bytes now status text problem asks.2 (told_run command bytes asks) spelled) [
+        | inl long ↦ absurd (few long.1)
+        | inr row ↦ row
+      ]
+
+  asked_row : (command : Command) (problem : Problem) → AsksProblem before words command problem → status ≢ 1 → ProblemAnswers command problem status text
+  asked_row command problem asks other =
+      elim (problem_row command asks.0 now status text problem asks.1.2 (told_run command asks.0 asks.1) asks.2) [
+        | inl long ↦ absurd (other long.0)
+        | inr row ↦ row
+      ]
+
+  pub lacking_run : (command : Command) (problem : Problem) → AsksProblem before words command problem → status ≡ 8 → LacksModel (profile_of problem)
+  lacking_run command problem asks eight =
+      lacks command problem status text (asked_row command problem asks (λ one. omega arith)) eight
+
+  pub not_merged_run : (command : Command) (problem : Problem) → AsksProblem before words command problem → LacksModel (profile_of problem) → status ≢ 0
+  not_merged_run command problem asks lack = λ none.
+      lacks_none command problem status text (asked_row command problem asks (λ one. omega arith)) none lack
+
+  pub merged_run : (d : DistanceName) (a : AggregatorName) (problem : Problem) → AsksProblem before words (Merge d a) problem → status ≡ 0 → ReportsMerge d a problem text
+  merged_run d a problem asks none = merged_row d a problem status text (asked_row (Merge d a) problem asks (λ one. omega arith)) none
+
+  pub inconsistent_run : (d : DistanceName) (a : AggregatorName) (problem : Problem) → AsksProblem before words (Merge d a) problem → status ≡ 8 → ReportsLack d a problem text
+  inconsistent_run d a problem asks eight = lacking_row d a problem status text (asked_row (Merge d a) problem asks (λ one. omega arith)) eight

@@ -1,47 +1,35 @@
 -- What a run answers to its words and to what it read, where nothing stops it.
 use Rattle.std.specs.Prelude.{◌≡◌, ℕ, List, [], codes, Option, Some}
-use Rattle.edge.specs.Streams.{Gave}
-use Rattle.merge_model.specs.declared.operator.DistanceName.{DistanceName}
-use Rattle.merge_model.specs.declared.operator.AggregatorName.{AggregatorName}
+use Rattle.edge.specs.Streams.{Exceeds, Gave}
 use Rattle.merge_model.specs.declared.problem.Problem.{Problem}
 use Rattle.problem_reading.specs.Spelling.{Spelled}
-use Rattle.merge_cli.specs.declared.forms.Form.{Form}
-use Rattle.merge_cli.specs.declared.forms.Form.TheVariants.{Merge}
-use Rattle.merge_cli.specs.Forms.{IsFormOf, IsNoForm}
+use Rattle.merge_cli.specs.declared.commands.Command.{Command}
+use Rattle.merge_cli.specs.declared.commands.Command.TheVariants.{Merge}
+use Rattle.merge_cli.specs.Commands.{IsCommand, IsNoCommand, limit_of, Reads, ReadsProblem}
 use Rattle.merge_cli.specs.Merge.{MergeAnswers}
+use Rattle.merge_cli.specs.Rows.{ReadAnswers, ProblemTextAnswers}
+
+-- what a command answers to a problem
+abbrev pub ProblemAnswers : Command → Problem → ℕ → List ℕ → Type 0
+ProblemAnswers (Merge distance aggregator) = MergeAnswers distance aggregator
+
+-- what a command answers to a text that it read to its end
+abbrev pub TextAnswers : Command → List ℕ → ℕ → List ℕ → Type 0
+TextAnswers (Merge distance aggregator) = ProblemTextAnswers (ProblemAnswers (Merge distance aggregator))
 
 -- A table of answers: what the source tells after the run, what was read, the status and the text.
 abbrev pub Table : Type 1
 Table = Option (List ℕ) → List ℕ → ℕ → List ℕ → Type 0
 
--- what a command answers
-abbrev pub CommandAnswers : Form → Table
-CommandAnswers (Merge distance aggregator) = MergeAnswers distance aggregator
-
--- the command reads its source
-abbrev pub Reads : Form → Type 0
-Reads (Merge distance aggregator) = Unit {0}
-
--- the command reads a problem text
-abbrev pub ReadsProblem : Form → Type 0
-ReadsProblem (Merge distance aggregator) = Unit {0}
-
--- the words are those of a command that reads
-abbrev pub IsReading : List (List ℕ) → Type 0
-IsReading words = (form : Form) × IsFormOf words form × Reads form
-
--- the words are those of no command that reads
-abbrev pub IsUnread : List (List ℕ) → Type 0
-IsUnread words = (form : Form) → IsFormOf words form → Reads form → ⊥
-
--- the words are those of a command over a problem text
-abbrev pub IsProblemCommand : List (List ℕ) → Type 0
-IsProblemCommand words = (form : Form) × IsFormOf words form × ReadsProblem form
+-- what a command answers to what it read
+abbrev pub CommandAnswers : Command → Table
+CommandAnswers (Merge distance aggregator) =
+    ReadAnswers (limit_of (Merge distance aggregator)) (TextAnswers (Merge distance aggregator))
 
 -- the answers to any words
 pub data Answers (words : List (List ℕ)) (now : Option (List ℕ)) (read : List ℕ) (status : ℕ) (text : List ℕ) : Type 0 where
-  refused_words : IsNoForm words → read ≡ [] → status ≡ 2 → text ≡ codes "refused words\n" → Answers words now read status text
-  of_command : (form : Form) → IsFormOf words form → CommandAnswers form now read status text → Answers words now read status text
+  refused_words : IsNoCommand words → read ≡ [] → status ≡ 2 → text ≡ codes "refused words\n" → Answers words now read status text
+  of_command : (command : Command) → IsCommand words command → CommandAnswers command now read status text → Answers words now read status text
 
 -- the source gave some bytes, and the table has this status and this text for them
 pub record Answered (table : Table) (before now : Option (List ℕ)) (room_before room_now : ℕ) (status : ℕ) (text : List ℕ) : Type 0 where
@@ -49,11 +37,22 @@ pub record Answered (table : Table) (before now : Option (List ℕ)) (room_befor
   pub gave : Gave before now room_before room_now read
   pub answers : table now read status text
 
--- the source tells these bytes, and the words ask to merge what they spell
-abbrev pub AsksMerge : Option (List ℕ) → List (List ℕ) → List ℕ → DistanceName → AggregatorName → Type 0
-AsksMerge left words bytes distance aggregator = (left ≡ Some bytes) × IsFormOf words (Merge distance aggregator)
+-- the words are those of a command that reads
+abbrev pub IsReading : List (List ℕ) → Type 0
+IsReading words = (command : Command) × IsCommand words command × Reads command
 
--- the source tells bytes that spell this problem, and the words ask to merge it
-abbrev pub AsksProblem : Option (List ℕ) → List (List ℕ) → DistanceName → AggregatorName → Problem → Type 0
-AsksProblem left words distance aggregator problem =
-    (bytes : List ℕ) × AsksMerge left words bytes distance aggregator × Spelled bytes problem
+-- the words are those of no command that reads
+abbrev pub IsUnread : List (List ℕ) → Type 0
+IsUnread words = (command : Command) → IsCommand words command → Reads command → ⊥
+
+-- the words are those of a command that takes fewer bytes
+abbrev pub IsTooMuch : List (List ℕ) → ℕ → Type 0
+IsTooMuch words count = (command : Command) × IsCommand words command × Exceeds (limit_of command) count
+
+-- the source tells these bytes, and the words are those of a command that reads them as a problem text
+abbrev pub AsksText : Option (List ℕ) → List (List ℕ) → Command → List ℕ → Type 0
+AsksText left words command bytes = (left ≡ Some bytes) × IsCommand words command × ReadsProblem command
+
+-- so, and the bytes spell this problem
+abbrev pub AsksProblem : Option (List ℕ) → List (List ℕ) → Command → Problem → Type 0
+AsksProblem left words command problem = (bytes : List ℕ) × AsksText left words command bytes × Spelled bytes problem

@@ -6,6 +6,10 @@ use Rattle.problem_reading.specs.declared.stop.TextStop.TheVariants.{Fault, NoMe
 use Rattle.problem_reading.specs.declared.stop.TextKind.{TextKind}
 use Rattle.problem_reading.specs.declared.stop.TextKind.TheVariants.{BadByte, BadLine, BadForm, UnknownAtom, Reserved, Twice, TooMany, TooDeep, NoAtoms, NoAgent}
 
+-- more bytes came than a command takes
+abbrev pub too_long_text : List ℕ
+too_long_text = codes "refused: too long\n"
+
 abbrev pub kind_word : TextKind → List ℕ
 kind_word BadByte = codes "bad-byte"
 kind_word BadLine = codes "bad-line"

@@ -1,6 +1,5 @@
 -- The lines of a report: what was asked, the problem, and the answer.
-use Rattle.std.specs.Prelude.{ℕ, ◌+◌, Bool, List, [], ◌∷◌, ◌++◌, map, codes, decimal, if◌then◌else◌, Option, None, Some}
-use Rattle.std.specs.List.{flat_map}
+use Rattle.std.specs.Prelude.{ℕ, ◌+◌, Bool, List, [], ◌∷◌, ◌++◌, map, codes, decimal, Option, None, Some}
 use Rattle.merge_model.specs.declared.operator.DistanceName.{DistanceName}
 use Rattle.merge_model.specs.declared.operator.AggregatorName.{AggregatorName}
 use Rattle.merge_model.specs.declared.answer.Answer.{Answer}
@@ -9,20 +8,10 @@ use Rattle.merge_model.specs.declared.answer.Shown.{Shown}
 use Rattle.merge_model.specs.declared.answer.Verdict.{Verdict}
 use Rattle.merge_model.specs.declared.answer.Verdict.TheVariants.{Yes, No}
 use Rattle.merge_model.specs.declared.problem.Problem.{Problem}
-use Rattle.profile_text.specs.ProblemText.{problem_text}
+use Rattle.formula_text.specs.ValuationWords.{valuation_word}
+use Rattle.profile_text.specs.ProblemText.{lines_text, problem_lines}
 use Rattle.report_words.specs.Words.{line_of}
-use Rattle.merge_cli.specs.Forms.{distance_word, aggregator_word}
-
--- a report line: the line of its words, and a line feed
-abbrev pub report_line : List (List ℕ) → List ℕ
-report_line words = line_of words ++ codes "\n"
-
-abbrev pub text_of : List (List (List ℕ)) → List ℕ
-text_of lines = flat_map report_line lines
-
--- a valuation as a word: 0 for false and 1 for true
-abbrev pub valuation_word : List Bool → List ℕ
-valuation_word v = map (λ b. if b then 49 else 48) v
+use Rattle.merge_model.specs.OperatorWords.{distance_word, aggregator_word}
 
 abbrev pub head_lines : DistanceName → AggregatorName → ℕ → List (List (List ℕ))
 head_lines distance aggregator conflicts =
@@ -45,27 +34,34 @@ abbrev pub verdict_lines : ℕ → Verdict → List (List (List ℕ))
 verdict_lines k Yes = (codes "verdict" ∷ decimal k ∷ codes "yes" ∷ []) ∷ []
 verdict_lines k (No shown) = (codes "verdict" ∷ decimal k ∷ codes "no" ∷ []) ∷ shown_lines shown
 
--- the verdicts from this number on
-abbrev pub verdicts_from : ℕ → List Verdict → List (List (List ℕ))
-verdicts_from k [] = []
-verdicts_from k (verdict ∷ verdicts) = verdict_lines k verdict ++ verdicts_from (k + 1) verdicts
-
 -- the model of a formula, or that it has none
 abbrev pub named_line : List (List ℕ) → Option (List Bool) → List (List ℕ)
 named_line subject None = codes "no-model" ∷ subject
 named_line subject (Some v) = codes "has-model" ∷ subject ++ valuation_word v ∷ []
 
--- the models of the bases from this agent on
-abbrev pub named_from : ℕ → List (Option (List Bool)) → List (List (List ℕ))
-named_from i [] = []
-named_from i (entry ∷ entries) = named_line (codes "agent" ∷ decimal i ∷ []) entry ∷ named_from (i + 1) entries
+-- so of the base of the agent of this number
+abbrev pub agent_lines : ℕ → Option (List Bool) → List (List (List ℕ))
+agent_lines i entry = named_line (codes "agent" ∷ decimal i ∷ []) entry ∷ []
+
+-- the lines of entries that are numbered from this number on
+abbrev pub numbered_from : {X : Type 0} → (ℕ → X → List (List (List ℕ))) → ℕ → List X → List (List (List ℕ))
+numbered_from lines k [] = []
+numbered_from lines k (x ∷ xs) = lines k x ++ numbered_from lines (k + 1) xs
 
 abbrev pub answer_lines : Answer → List (List (List ℕ))
-answer_lines (Merged best measure verdicts) = shown_lines best ++ (codes "measure" ∷ map decimal measure) ∷ verdicts_from 1 verdicts
-answer_lines (Inconsistent constraint agents) = named_line (codes "constraint" ∷ []) constraint ∷ named_from 1 agents
+answer_lines (Merged best measure verdicts) = shown_lines best ++ (codes "measure" ∷ map decimal measure) ∷ numbered_from verdict_lines 1 verdicts
+answer_lines (Inconsistent constraint agents) = named_line (codes "constraint" ∷ []) constraint ∷ numbered_from agent_lines 1 agents
 answer_lines GaveUp = (codes "gave-up" ∷ []) ∷ []
 
--- the report on a problem, without its log: what was asked, the problem, and the answer
+-- lines of words, each ended by a line feed
+abbrev pub text_of : List (List (List ℕ)) → List ℕ
+text_of lines = lines_text (map line_of lines)
+
+-- the lines of the report on a problem, without its log: what was asked, the problem, and the answer
+abbrev pub report_lines : DistanceName → AggregatorName → ℕ → Problem → Answer → List (List ℕ)
+report_lines distance aggregator conflicts problem answer =
+    map line_of (head_lines distance aggregator conflicts) ++ problem_lines problem ++ map line_of (answer_lines answer)
+
 abbrev pub report_text : DistanceName → AggregatorName → ℕ → Problem → Answer → List ℕ
 report_text distance aggregator conflicts problem answer =
-    text_of (head_lines distance aggregator conflicts) ++ problem_text problem ++ text_of (answer_lines answer)
+    lines_text (report_lines distance aggregator conflicts problem answer)

@@ -1,102 +1,58 @@
-ghost use Rattle.std.specs.Prelude.{◌≡◌, ◌≤◌, ◌++◌, length, IfOk, OnOk, OnErr};
-ghost use Rattle.merge_cli.specs.Merge.{ProblemAnswers, TextAnswers, status_of};
+ghost use Rattle.std.specs.Prelude.{◌≡◌, IfOk};
+ghost use Rattle.merge_cli.specs.Answers.{ProblemAnswers, TextAnswers};
+ghost use Rattle.merge_cli.specs.Commands.{Reads, ReadsProblem};
 ghost use Rattle.merge_cli.specs.Refusals.{SaysFault, SaysStop};
-ghost use Rattle.merge_cli.specs.ReportLines.{report_text};
+ghost use Rattle.merge_cli.specs.Rows.{ProblemTextAnswers};
 
+use crate::commands::Command;
+use crate::merging::merge_reply;
 use crate::refusal::refusal;
-use crate::reply::{Reply, says};
-use crate::report::{put_answer, put_head};
-use crate::status::{ANSWERED, GAVE_UP, LACKS_MODEL, NOT_BUILT, REFUSED};
+use crate::reply::Reply;
+use crate::status::REFUSED;
 use edge::NoMemory;
-use merge_model::{AggregatorName, Answer, DistanceName, Problem, merge_named};
+use merge_model::{AggregatorName, DistanceName, Problem};
 use problem_reading::{TextFault, TextStop, read_problem};
-use profile_text::write_problem;
 use std::alloc::Global;
 
-/// The number of conflicts that a report names where no word gives one.
-const USUAL_CONFLICTS: u64 = 100_000;
-
-/// How many atoms a problem that is answered may have.
-const MOST_ATOMS: u32 = 8;
-
-fn report_of(
-    alloc: Global,
-    distance: DistanceName,
-    aggregator: AggregatorName,
-    conflicts: u64,
-    problem: &Problem,
-    answer: &Answer,
-) -> Result<Vec<u8>, NoMemory>
-    ensures { IfOk result (λ text. text.items ≡ report_text distance aggregator conflicts problem.now answer.now) }
+/// What a command answers to a text that it read to its end.
+pub fn text_reply(alloc: Global, command: Command, bytes: &[u8]) -> Result<Reply, NoMemory>
+    requires { Reads command }
+    ensures { IfOk result (λ reply. TextAnswers command bytes.now reply.status reply.text.items) }
 {
-    let mut text = Vec::new(alloc);
-    put_head(&mut text, distance, aggregator, conflicts)?;
-    write_problem(problem, &mut text)?;
-    put_answer(&mut text, answer)?;
-    Ok(text)
-}
-
-/// Appends the lines of a report that stand before its log. `NoMemory` for want of memory: nothing
-/// is appended then.
-pub fn write_answer(
-    alloc: Global,
-    distance: DistanceName,
-    aggregator: AggregatorName,
-    conflicts: u64,
-    problem: &Problem,
-    answer: &Answer,
-    into: &mut Vec<u8>,
-) -> Result<(), NoMemory>
-    ensures ok { OnOk result (into.new.items ≡ into.old.items ++ report_text distance aggregator conflicts problem.now answer.now) }
-    ensures err { OnErr result (into.new.items ≡ into.old.items) }
-{
-    let text = report_of(alloc, distance, aggregator, conflicts, problem, answer)?;
-    into.extend_from_slice(text.as_slice())?;
-    Ok(())
-}
-
-fn status_for(answer: &Answer) -> u8
-    ensures { result ≡ status_of answer.now }
-{
-    match answer {
-        Answer::Merged { .. } => ANSWERED,
-        Answer::Inconsistent { .. } => LACKS_MODEL,
-        Answer::GaveUp => GAVE_UP,
+    match command {
+        Command::Merge(_, _) => problem_text_reply(alloc, command, bytes),
     }
 }
 
-fn problem_reply(
-    alloc: Global,
-    distance: DistanceName,
-    aggregator: AggregatorName,
-    problem: &Problem,
-) -> Result<Reply, NoMemory>
-    requires { length problem.now.atoms ≤ 8 }
-    ensures { IfOk result (λ reply. ProblemAnswers distance aggregator problem.now reply.status reply.text.items) }
+// What a command answers to a problem text.
+fn problem_text_reply(alloc: Global, command: Command, bytes: &[u8]) -> Result<Reply, NoMemory>
+    requires { ReadsProblem command }
+    ensures { IfOk result (λ reply. ProblemTextAnswers (ProblemAnswers command) bytes.now
+        reply.status reply.text.items) }
 {
-    let answer = merge_named(alloc, distance, aggregator, problem)?;
-    let mut text = Vec::new(alloc);
-    write_answer(
-        alloc,
-        distance,
-        aggregator,
-        USUAL_CONFLICTS,
-        problem,
-        &answer,
-        &mut text,
-    )?;
-    let status = status_for(&answer);
-    Ok(Reply { status, text })
+    match read_problem(alloc, bytes) {
+        Ok(problem) => problem_reply(alloc, command, &problem),
+        Err(stop) => stop_reply(alloc, stop),
+    }
 }
 
-fn fault_reply(alloc: Global, fault: TextFault) -> Result<Reply, NoMemory>
-    ensures { IfOk result (λ reply. SaysFault fault reply.status reply.text.items) }
+// What a command answers to a problem.
+fn problem_reply(alloc: Global, command: Command, problem: &Problem) -> Result<Reply, NoMemory>
+    requires { ReadsProblem command }
+    ensures { IfOk result (λ reply. ProblemAnswers command problem.now
+        reply.status reply.text.items) }
 {
-    let text = refusal(alloc, fault)?;
-    Ok(Reply {
-        status: REFUSED,
-        text,
-    })
+    let (distance, aggregator) = operators_of(command);
+    merge_reply(alloc, distance, aggregator, problem)
+}
+
+// The distance and the aggregator by which a command merges.
+fn operators_of(command: Command) -> (DistanceName, AggregatorName)
+    ensures { command ≡ Command.Merge result.0 result.1 }
+{
+    match command {
+        Command::Merge(distance, aggregator) => (distance, aggregator),
+    }
 }
 
 fn stop_reply(alloc: Global, stop: TextStop) -> Result<Reply, NoMemory>
@@ -108,22 +64,12 @@ fn stop_reply(alloc: Global, stop: TextStop) -> Result<Reply, NoMemory>
     }
 }
 
-/// The reply to a text that is not too long.
-pub fn text_reply(
-    alloc: Global,
-    distance: DistanceName,
-    aggregator: AggregatorName,
-    bytes: &[u8],
-) -> Result<Reply, NoMemory>
-    ensures { IfOk result (λ reply. TextAnswers distance aggregator bytes.now reply.status reply.text.items) }
+fn fault_reply(alloc: Global, fault: TextFault) -> Result<Reply, NoMemory>
+    ensures { IfOk result (λ reply. SaysFault fault reply.status reply.text.items) }
 {
-    match read_problem(alloc, bytes) {
-        Ok(problem) => {
-            if problem.atoms.len() > MOST_ATOMS {
-                return says(alloc, NOT_BUILT, b"refused: not built\n");
-            }
-            problem_reply(alloc, distance, aggregator, &problem)
-        }
-        Err(stop) => stop_reply(alloc, stop),
-    }
+    let text = refusal(alloc, fault)?;
+    Ok(Reply {
+        status: REFUSED,
+        text,
+    })
 }

@@ -2,9 +2,10 @@
 #![tactic(auto)]
 
 mod answering;
+mod commands;
 mod exact;
-mod forms;
 mod merging;
+mod reading;
 mod refusal;
 mod reply;
 mod report;
@@ -14,7 +15,7 @@ pub mod status;
 mod tests;
 mod top;
 
-pub use answering::write_answer;
+pub use commands::{Command, command_of};
 pub use exact::{lacking_is_exact, refused_words_are_exact, too_long_is_exact};
-pub use forms::{Form, form_of};
+pub use report::write_answer;
 pub use top::{Outcome, run};

@@ -1,37 +1,52 @@
-ghost use Rattle.std.specs.Prelude.{ℕ, ◌≤◌, List, IfOk, OnErr, IsErrOf};
-ghost use Rattle.edge.specs.Faults.{Rose};
-ghost use Rattle.edge.specs.Streams.{Gave};
-ghost use Rattle.merge_cli.specs.Merge.{MergeAnswers};
-ghost use Rattle.merge_cli.specs.Answers.{Answered};
+ghost use Rattle.std.specs.Prelude.{◌≡◌, IfOk};
+ghost use Rattle.merge_cli.specs.Merge.{MergeAnswers, status_of};
 
-use crate::answering::text_reply;
-use crate::reply::{Reply, Stop, says};
-use crate::status::REFUSED;
-use edge::{ReadStop, Source, read_all};
-use merge_model::{AggregatorName, DistanceName};
+use crate::reply::{Reply, says};
+use crate::report::write_answer;
+use crate::status::{ANSWERED, GAVE_UP, LACKS_MODEL, NOT_BUILT};
+use edge::NoMemory;
+use merge_model::{AggregatorName, Answer, DistanceName, Problem, merge_named};
 use std::alloc::Global;
 
-/// How many bytes a problem text may have.
-const MOST_BYTES: usize = 262_144;
+/// The number of conflicts that a report names where no word gives one.
+const USUAL_CONFLICTS: u64 = 100_000;
 
-/// Reads the source and answers its text. After a stop the source has lost the bytes that were read.
-pub fn merge<S: Source>(
+/// How many atoms a problem that is answered may have.
+const BUILT_LIMIT: u32 = 8;
+
+/// What `merge` answers to a problem.
+pub fn merge_reply(
     alloc: Global,
     distance: DistanceName,
     aggregator: AggregatorName,
-    source: &mut S,
-) -> Result<Reply, Stop>
-    ensures ok { IfOk result (λ reply. Answered (MergeAnswers distance aggregator) (S.left source.old) (S.left source.new)
-        (S.room source.old) (S.room source.new) reply.status reply.text.items) }
-    ensures err { OnErr result ((bytes : List ℕ) × Gave (S.left source.old) (S.left source.new)
-        (S.room source.old) (S.room source.new) bytes) }
-    ensures failed { IsErrOf result Stop.Failed → Rose (S.faults source.old) (S.faults source.new) }
-    ensures faults { S.faults source.old ≤ S.faults source.new }
+    problem: &Problem,
+) -> Result<Reply, NoMemory>
+    ensures { IfOk result (λ reply. MergeAnswers distance aggregator problem.now
+        reply.status reply.text.items) }
 {
-    match read_all(alloc, source, Some(MOST_BYTES)) {
-        Ok(bytes) => Ok(text_reply(alloc, distance, aggregator, bytes.as_slice())?),
-        Err(ReadStop::TooLong) => Ok(says(alloc, REFUSED, b"refused: too long\n")?),
-        Err(ReadStop::Failed) => Err(Stop::Failed),
-        Err(ReadStop::NoMemory) => Err(Stop::NoMemory),
+    if problem.atoms.len() > BUILT_LIMIT {
+        return says(alloc, NOT_BUILT, b"refused: not built\n");
+    }
+    let answer = merge_named(alloc, distance, aggregator, problem)?;
+    let mut text = Vec::new(alloc);
+    write_answer(
+        distance,
+        aggregator,
+        USUAL_CONFLICTS,
+        problem,
+        &answer,
+        &mut text,
+    )?;
+    let status = status_for(&answer);
+    Ok(Reply { status, text })
+}
+
+fn status_for(answer: &Answer) -> u8
+    ensures { result ≡ status_of answer.now }
+{
+    match answer {
+        Answer::Merged { .. } => ANSWERED,
+        Answer::Inconsistent { .. } => LACKS_MODEL,
+        Answer::GaveUp => GAVE_UP,
     }
 }

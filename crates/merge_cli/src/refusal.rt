@@ -2,8 +2,8 @@ ghost use Rattle.std.specs.Prelude.{◌≡◌, IfOk};
 ghost use Rattle.merge_cli.specs.Refusals.{kind_word, refusal_text};
 
 use edge::NoMemory;
-use itoa::Buffer;
 use problem_reading::{TextFault, TextKind};
+use report_words::{write_bytes, write_number, write_word};
 use std::alloc::Global;
 
 fn word_of_kind(kind: TextKind) -> &'static str
@@ -27,10 +27,10 @@ fn word_of_kind(kind: TextKind) -> &'static str
 pub fn refusal(alloc: Global, fault: TextFault) -> Result<Vec<u8>, NoMemory>
     ensures { IfOk result (λ text. text.items ≡ refusal_text fault) }
 {
-    let mut text = Vec::from_slice(alloc, b"refused line ")?;
-    text.extend_from_slice(Buffer::new().format(fault.line).as_bytes())?;
-    text.extend_from_slice(b": ")?;
-    text.extend_from_slice(word_of_kind(fault.kind).as_bytes())?;
-    text.extend_from_slice(b"\n")?;
+    let mut text = Vec::from_slice(alloc, b"refused line")?;
+    write_number(fault.line, &mut text)?;
+    write_bytes(b":", &mut text)?;
+    write_word(word_of_kind(fault.kind).as_bytes(), &mut text)?;
+    write_bytes(b"\n", &mut text)?;
     Ok(text)
 }

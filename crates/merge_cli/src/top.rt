@@ -1,12 +1,15 @@
-ghost use Rattle.std.specs.Prelude.{◌≡◌, ◌≢◌, ◌⊎◌, ℕ, ◌<◌, ◌≤◌, ◌-◌, ◌↔◌, List, [], length, take, codes};
-ghost use Rattle.std.specs.Prelude.{Option, Some, IfOk, OnErr, IsErrOf};
+ghost use Rattle.std.specs.Prelude.{◌≡◌, ◌≢◌, ◌⊎◌, ℕ, ◌<◌, ◌≤◌, ◌-◌, ◌↔◌};
+ghost use Rattle.std.specs.Prelude.{List, [], length, take, IfOk, OnErr, IsErrOf};
 ghost use Rattle.std.specs.Io.KnownBytes.{Appends, IsAtEnd};
 ghost use Rattle.edge.specs.Faults.{Rose};
-ghost use Rattle.edge.specs.Streams.{Gave};
-ghost use Rattle.merge_cli.specs.Forms.{IsNoForm};
-ghost use Rattle.merge_cli.specs.Answers.{Answers, Answered, CommandAnswers, Reads, IsReading, IsUnread, IsProblemCommand, AsksMerge, AsksProblem};
-ghost use Rattle.merge_cli.specs.Merge.{most_bytes, most_atoms, IsNotBuilt, ReportsMerge, ReportsLack};
-ghost use Rattle.merge_cli.specs.Refusals.{refusal_text};
+ghost use Rattle.edge.specs.Streams.{Exceeds, Gave};
+ghost use Rattle.merge_cli.specs.Commands.{IsCommand, IsNoCommand, limit_of, Reads, ReadsProblem};
+ghost use Rattle.merge_cli.specs.Answers.{Answers, Answered, CommandAnswers, TextAnswers};
+ghost use Rattle.merge_cli.specs.Answers.{ProblemAnswers, IsReading, IsUnread, IsTooMuch};
+ghost use Rattle.merge_cli.specs.Answers.{AsksText, AsksProblem};
+ghost use Rattle.merge_cli.specs.Merge.{ReportsMerge, ReportsLack};
+ghost use Rattle.merge_cli.specs.Refusals.{refusal_text, too_long_text};
+ghost use Rattle.merge_cli.specs.Rows.{ReadAnswers};
 ghost use Rattle.merge_model.specs.declared.problem.Problem.{Problem};
 ghost use Rattle.merge_model.specs.Answers.{profile_of};
 ghost use Rattle.merge_model.specs.Merging.{LacksModel};
@@ -15,8 +18,8 @@ ghost use Rattle.problem_reading.specs.Spelling.{Spelled, FirstFault};
 ghost use Rattle.merge_model.specs.declared.operator.DistanceName.{DistanceName};
 ghost use Rattle.merge_model.specs.declared.operator.AggregatorName.{AggregatorName};
 
-use crate::forms::{Form, form_of};
-use crate::merging;
+use crate::commands::{Command, command_of};
+use crate::reading::read_reply;
 use crate::reply::{Reply, Stop, says};
 use crate::status::{NO_MEMORY, READ_FAULT, REFUSED_WORDS, WRITE_FAULT};
 use edge::{Sink, Source, Words, send_all};
@@ -33,48 +36,57 @@ pub struct Outcome {
     pub sent: usize,
 }
 
-// What the form asks.
-fn command_reply<S: Source>(alloc: Global, form: Form, source: &mut S) -> Result<Reply, Stop>
-    ensures ok { IfOk result (λ reply. Answered (CommandAnswers form) (S.left source.old) (S.left source.new)
-        (S.room source.old) (S.room source.new) reply.status reply.text.items) }
+// What the command asks.
+fn command_reply<S: Source>(alloc: Global, command: Command, source: &mut S) -> Result<Reply, Stop>
+    ensures ok { IfOk result (λ reply. Answered (CommandAnswers command)
+        (S.left source.old) (S.left source.new) (S.room source.old) (S.room source.new)
+        reply.status reply.text.items) }
     ensures err { OnErr result ((bytes : List ℕ) × Gave (S.left source.old) (S.left source.new)
         (S.room source.old) (S.room source.new) bytes) }
-    ensures failed { IsErrOf result Stop.Failed → Reads form × Rose (S.faults source.old) (S.faults source.new) }
+    ensures failed { IsErrOf result Stop.Failed
+        → Reads command × Rose (S.faults source.old) (S.faults source.new) }
     ensures faults { S.faults source.old ≤ S.faults source.new }
-    ensures unread { ¬ (Reads form) → source.new ≡ source.old }
+    ensures quiet { result ≢ Err Stop.Failed
+        → S.faults source.new ≡ S.faults source.old }
+    ensures unread { ¬ (Reads command) → source.new ≡ source.old }
 {
-    match form {
-        Form::Merge(distance, aggregator) => merging::merge(alloc, distance, aggregator, source),
+    match command {
+        Command::Merge(_, _) => read_reply(alloc, command, source),
     }
 }
 
 // What the words ask.
 fn reply<S: Source>(alloc: Global, words: &Words, source: &mut S) -> Result<Reply, Stop>
-    ensures ok { IfOk result (λ reply. Answered (Answers words.now) (S.left source.old) (S.left source.new)
-        (S.room source.old) (S.room source.new) reply.status reply.text.items) }
+    ensures ok { IfOk result (λ reply. Answered (Answers words.now)
+        (S.left source.old) (S.left source.new) (S.room source.old) (S.room source.new)
+        reply.status reply.text.items) }
     ensures err { OnErr result ((bytes : List ℕ) × Gave (S.left source.old) (S.left source.new)
         (S.room source.old) (S.room source.new) bytes) }
-    ensures failed { IsErrOf result Stop.Failed → IsReading words.now × Rose (S.faults source.old) (S.faults source.new) }
+    ensures failed { IsErrOf result Stop.Failed
+        → IsReading words.now × Rose (S.faults source.old) (S.faults source.new) }
     ensures faults { S.faults source.old ≤ S.faults source.new }
+    ensures quiet { result ≢ Err Stop.Failed
+        → S.faults source.new ≡ S.faults source.old }
     ensures unread { IsUnread words.now → source.new ≡ source.old }
 {
-    match form_of(words) {
+    match command_of(words) {
         None => Ok(says(alloc, REFUSED_WORDS, b"refused words\n")?),
-        Some(form) => command_reply(alloc, form, source),
+        Some(command) => command_reply(alloc, command, source),
     }
 }
 
 /// Does all that the program does: answers what the words ask of the text in the source, and sends
 /// the answer to the sink. The statuses, in the order in which they are looked for:
 ///
-/// - 2: the words are none of the forms; nothing is read.
+/// - 2: the words are those of no command; nothing is read.
 /// - 4: a read failed; there is no text and the sink is not called.
 /// - 1: the text is refused: it has more than 262,144 bytes, or its first fault is named.
 /// - 9: the text is that of a problem with more than 8 atoms, which is not answered so far.
 /// - 8: the constraint or a base has no model; the text is the report that says which.
 /// - 0: the text is the report on the merged problem.
 /// - 5: a write failed; the sink took the first `sent` bytes of the text.
-/// - 6: memory was refused, at any place before the sending; there is no text and the sink is not called.
+/// - 6: memory was refused, at any place before the sending; there is no text and the sink is not
+///   called.
 pub fn run<S: Source, K: Sink>(
     alloc: Global,
     words: &Words,
@@ -86,63 +98,82 @@ pub fn run<S: Source, K: Sink>(
         (S.room source.old) (S.room source.new) result.status result.text.items }
 
     // At a fault of writing the text is that of another status, which this run had reached.
-    ensures unsent { result.status ≡ 5 → (wanted : ℕ) × Answered (Answers words.now) (S.left source.old) (S.left source.new)
-        (S.room source.old) (S.room source.new) wanted result.text.items }
+    ensures unsent { result.status ≡ 5 → (wanted : ℕ) × Answered (Answers words.now)
+        (S.left source.old) (S.left source.new) (S.room source.old) (S.room source.new)
+        wanted result.text.items }
 
     // Refusals come exactly where they are due, but for a fault or want of memory.
-    ensures refused_words { result.status ≢ 5 → result.status ≢ 6 → (result.status ≡ 2) ↔ IsNoForm words.now }
+    ensures refused_words { result.status ≢ 5 → result.status ≢ 6
+        → (result.status ≡ 2) ↔ IsNoCommand words.now }
     ensures too_long { result.status ≢ 4 → result.status ≢ 5 → result.status ≢ 6
-        → ((result.status ≡ 1) × (result.text.items ≡ codes "refused: too long\n"))
-        ↔ (IsProblemCommand words.now × (most_bytes < S.room source.old - S.room source.new)) }
+        → ((result.status ≡ 1) × (result.text.items ≡ too_long_text))
+        ↔ IsTooMuch words.now (S.room source.old - S.room source.new) }
 
     // Where the source tells its bytes, the answer is that to these bytes.
-    ensures merged { (distance : DistanceName) (aggregator : AggregatorName) (problem : Problem)
-        → AsksProblem (S.left source.old) words.now distance aggregator problem → result.status ≡ 0
-        → ReportsMerge distance aggregator problem result.text.items }
-    ensures lacks_model { (distance : DistanceName) (aggregator : AggregatorName) (problem : Problem)
-        → AsksProblem (S.left source.old) words.now distance aggregator problem → result.status ≡ 8
-        → ReportsLack distance aggregator problem result.text.items }
-    ensures lacking { (distance : DistanceName) (aggregator : AggregatorName) (problem : Problem)
-        → AsksProblem (S.left source.old) words.now distance aggregator problem → result.status ≡ 8
-        → LacksModel (profile_of problem) }
-    ensures lacking_not_merged { (distance : DistanceName) (aggregator : AggregatorName) (problem : Problem)
-        → AsksProblem (S.left source.old) words.now distance aggregator problem → LacksModel (profile_of problem)
-        → result.status ≢ 0 }
-    ensures spelled { (bytes : List ℕ) (distance : DistanceName) (aggregator : AggregatorName)
-        → AsksMerge (S.left source.old) words.now bytes distance aggregator
-        → (problem : Problem) → Spelled bytes problem → length bytes ≤ most_bytes
+    ensures told { (command : Command) (bytes : List ℕ)
+        → AsksText (S.left source.old) words.now command bytes
         → result.status ≢ 4 → result.status ≢ 5 → result.status ≢ 6
-        → ((length problem.atoms ≤ most_atoms) × ((result.status ≡ 0) ⊎ (result.status ≡ 8)))
-        ⊎ ((most_atoms < length problem.atoms) × (result.status ≡ 9)) }
-    ensures not_built_only { (bytes : List ℕ) (distance : DistanceName) (aggregator : AggregatorName)
-        → AsksMerge (S.left source.old) words.now bytes distance aggregator
-        → result.status ≡ 9 → (length bytes ≤ most_bytes) × IsNotBuilt bytes }
-    ensures refused { (bytes : List ℕ) (distance : DistanceName) (aggregator : AggregatorName)
-        → AsksMerge (S.left source.old) words.now bytes distance aggregator
-        → (fault : TextFault) → FirstFault bytes fault → length bytes ≤ most_bytes
+        → ReadAnswers (limit_of command) (TextAnswers command) (S.left source.new) bytes
+        result.status result.text.items }
+    ensures refused { (command : Command) (bytes : List ℕ)
+        → AsksText (S.left source.old) words.now command bytes
+        → (fault : TextFault) → FirstFault bytes fault
+        → ¬ (Exceeds (limit_of command) (length bytes))
         → result.status ≢ 4 → result.status ≢ 5 → result.status ≢ 6
         → (result.status ≡ 1) × (result.text.items ≡ refusal_text fault) }
-    ensures refused_only { (bytes : List ℕ) (distance : DistanceName) (aggregator : AggregatorName)
-        → AsksMerge (S.left source.old) words.now bytes distance aggregator
-        → result.status ≡ 1 → length bytes ≤ most_bytes
-        → (fault : TextFault) × FirstFault bytes fault × (result.text.items ≡ refusal_text fault) }
+    ensures refused_only { (command : Command) (bytes : List ℕ)
+        → AsksText (S.left source.old) words.now command bytes
+        → (fault : TextFault) → result.status ≡ 1 → result.text.items ≡ refusal_text fault
+        → (first : TextFault) × FirstFault bytes first × (refusal_text first ≡ refusal_text fault) }
+    ensures answered_problem { (command : Command) (bytes : List ℕ)
+        → AsksText (S.left source.old) words.now command bytes
+        → (problem : Problem) → Spelled bytes problem
+        → ¬ (Exceeds (limit_of command) (length bytes))
+        → result.status ≢ 4 → result.status ≢ 5 → result.status ≢ 6
+        → ProblemAnswers command problem result.status result.text.items }
+    ensures lacking { (command : Command) (problem : Problem)
+        → AsksProblem (S.left source.old) words.now command problem → result.status ≡ 8
+        → LacksModel (profile_of problem) }
+    ensures lacking_not_merged { (command : Command) (problem : Problem)
+        → AsksProblem (S.left source.old) words.now command problem
+        → LacksModel (profile_of problem)
+        → result.status ≢ 0 }
+    ensures merged { (distance : DistanceName) (aggregator : AggregatorName) (problem : Problem)
+        → AsksProblem (S.left source.old) words.now (Command.Merge distance aggregator) problem
+        → result.status ≡ 0
+        → ReportsMerge distance aggregator problem result.text.items }
+    ensures inconsistent { (distance : DistanceName) (aggregator : AggregatorName)
+        (problem : Problem)
+        → AsksProblem (S.left source.old) words.now (Command.Merge distance aggregator) problem
+        → result.status ≡ 8
+        → ReportsLack distance aggregator problem result.text.items }
 
-    ensures read_fault { result.status ≡ 4 → IsReading words.now × Rose (S.faults source.old) (S.faults source.new) }
-    ensures write_fault { result.status ≡ 5 → (result.sent < length result.text.items) × Rose (K.faults sink.old) (K.faults sink.new) }
-    ensures stopped { (result.status ≡ 4) ⊎ (result.status ≡ 6) → (result.text.items ≡ []) × (sink.new ≡ sink.old) }
+    ensures read_fault { result.status ≡ 4
+        → IsReading words.now × Rose (S.faults source.old) (S.faults source.new) }
+    ensures write_fault { result.status ≡ 5
+        → (result.sent < length result.text.items) × Rose (K.faults sink.old) (K.faults sink.new) }
+    ensures stopped { (result.status ≡ 4) ⊎ (result.status ≡ 6)
+        → (result.text.items ≡ []) × (sink.new ≡ sink.old) }
 
-    ensures sent { Appends (K.taken sink.old) (K.taken sink.new) (take result.sent result.text.items) }
+    ensures sent { Appends (K.taken sink.old) (K.taken sink.new)
+        (take result.sent result.text.items) }
     ensures whole { result.status ≢ 5 → result.sent ≡ length result.text.items }
 
-    // The source gave some bytes and has those left that it had after them, however the run ended. A
-    // text that is not too long is read to its end, and a run that asks no text reads nothing.
+    // The source gave some bytes and has those left that it had after them, however the run ended.
+    // A problem text that is not too long is read to its end, and a run that asks no text reads
+    // nothing.
     ensures source { (bytes : List ℕ) × Gave (S.left source.old) (S.left source.new)
         (S.room source.old) (S.room source.new) bytes }
-    ensures at_end { IsProblemCommand words.now → S.room source.old - S.room source.new ≤ most_bytes
+    ensures at_end { (command : Command) → IsCommand words.now command → ReadsProblem command
+        → ¬ (Exceeds (limit_of command) (S.room source.old - S.room source.new))
         → result.status ≢ 4 → result.status ≢ 6 → IsAtEnd (S.left source.new) }
     ensures unread { IsUnread words.now → source.new ≡ source.old }
+
+    // A count of faults rises only where the status tells it.
     ensures source_faults { S.faults source.old ≤ S.faults source.new }
     ensures sink_faults { K.faults sink.old ≤ K.faults sink.new }
+    ensures quiet_source { result.status ≢ 4 → S.faults source.new ≡ S.faults source.old }
+    ensures quiet_sink { result.status ≢ 5 → K.faults sink.new ≡ K.faults sink.old }
 {
     match reply(alloc, words, source) {
         Ok(Reply { status, text }) => match send_all(sink, text.as_slice()) {

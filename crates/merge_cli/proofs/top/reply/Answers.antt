@@ -3,4 +3,4 @@ use Rattle.merge_cli.proofs.top.reply.Goals as goal
 
 pub returns-in-Some-clause-ok : goal.returns-in-Some-clause-ok
 returns-in-Some-clause-ok g c =
-    answered_by_command c.args.words.now c.in-Some.form _ _ _ _ c.command_reply.result c.in-Some.ensures.some c.command_reply.ensures.ok
+    answered_by_command c.args.words.now c.in-Some.command _ _ _ _ c.command_reply.result c.in-Some.ensures.some c.command_reply.ensures.ok
