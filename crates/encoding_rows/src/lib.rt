@@ -1,0 +1,5 @@
+//! Worked main clauses and claims. There is nothing here but tests.
+#![tactic(auto)]
+
+#[cfg(test)]
+mod tests;
