@@ -4,3 +4,7 @@ pub mod Once
 pub mod ItemsLaw
 pub mod Elements
 pub mod LineFacts
+pub mod Orders
+pub mod Refuted
+pub mod Witnesses
+pub mod Truths

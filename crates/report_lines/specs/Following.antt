@@ -1,6 +1,6 @@
 -- What stands after a line.
-use Rattle.std.specs.Prelude.{◌≡◌, ℕ, ◌+◌, ◌==◌, nat_lt, Bool, true, false, if◌then◌else◌, List, [], ◌∷◌, ◌++◌, drop}
-use Rattle.merge_encoding.specs.Claims.{Assertion, NoModelOfConstraint, NoModelOfBase, NoNearer, NoBetter, NoBreaker}
+use Rattle.std.specs.Prelude.{◌≡◌, ℕ, ◌+◌, nat_lt, Bool, true, false, if◌then◌else◌, List, [], ◌∷◌, ◌++◌, drop}
+use Rattle.merge_encoding.specs.Claims.{Assertion, NoBreaker}
 use Rattle.problem_reading.specs.declared.said.Said.{Said}
 use Rattle.problem_reading.specs.declared.said.Said.TheVariants.{Nothing, Names, Condition, Belief, Query}
 use Rattle.problem_reading.specs.Canonical.{IsWritten}
@@ -10,7 +10,8 @@ use Rattle.report_lines.specs.declared.kinds.Due.TheVariants as due
 use Rattle.report_lines.specs.declared.kinds.Kind.TheVariants as kind
 use Rattle.report_lines.specs.declared.kinds.Subject.{Subject}
 use Rattle.report_lines.specs.declared.kinds.Subject.TheVariants.{TheConstraint, BaseOf}
-use Rattle.report_lines.specs.Items.{Item, HeadLine, DistanceLine, AggregatorLine, ConflictsLine, ProblemLine, ModelLine, VectorLine, NearestLine, MeasureLine, VerdictLine, NoModelLine, HasModelLine, GaveUpLine, MainLine, LogLine, ShownLine, EndLine, DueClaim}
+use Rattle.report_lines.specs.Items.{Item, HeadLine, DistanceLine, AggregatorLine, ConflictsLine, ProblemLine, ModelLine, VectorLine, NearestLine, MeasureLine, VerdictLine, NoModelLine, HasModelLine, GaveUpLine, MainLine, LogLine, ShownLine, EndLine}
+use Rattle.report_lines.specs.ClaimsDue.{of_first, far_claims, least_claims, lack_of}
 use Rattle.report_lines.specs.Places.{Position, agents_at, asks_at, values_at}
 use Rattle.derivation_log.specs.Logs.{is_learned}
 use Rattle.derivation_log.specs.StepLines.{StepLine}
@@ -18,24 +19,8 @@ use Rattle.log_lines.specs.Spending.{Noted}
 use Rattle.log_lines.specs.Taking.{narrow_step}
 use Rattle.report_lines.specs.Holding.{holds, named_with}
 
--- no model of a base is nearer to model k: for each agent, from i on, whose distance is not 0
-abbrev pub far_claims : ℕ → List Bool → ℕ → List ℕ → List DueClaim
-far_claims k model i [] = []
-far_claims k model i (d ∷ ds) =
-    if d == 0 then far_claims k model (i + 1) ds else record { model = k; says = NoNearer i model d } ∷ far_claims k model (i + 1) ds
-
--- nothing is better first at a level: for each level, from j on, whose value is not 0
-abbrev pub least_claims : List ℕ → ℕ → List ℕ → List DueClaim
-least_claims values j [] = []
-least_claims values j (x ∷ xs) =
-    if x == 0 then least_claims values (j + 1) xs else record { model = 0; says = NoBetter j values } ∷ least_claims values (j + 1) xs
-
-abbrev pub lack_of : Subject → Assertion
-lack_of TheConstraint = NoModelOfConstraint
-lack_of (BaseOf i) = NoModelOfBase i
-
 abbrev pub claimed : Position → Assertion → List DueClaim
-claimed p says = p.claims ++ record { model = 0; says = says } ∷ []
+claimed p says = p.claims ++ of_first says ∷ []
 
 -- due once so many verdicts are given
 abbrev pub due_after_verdicts : Position → ℕ → Due
@@ -77,10 +62,10 @@ after p (VectorLine ds) = record p {
   due = due.Nearest;
   vector = ds;
   best = if p.verdicts == 0 then ds else p.best;
-  claims = p.claims ++ far_claims p.verdicts p.model 0 ds;
+  claims = p.claims ++ far_claims p.verdicts p.model ds;
 }
 after p (NearestLine ws) = record p { due = if p.verdicts == 0 then due.Measure else due_after_verdicts p p.verdicts }
-after p (MeasureLine rs) = record p { due = due_after_verdicts p 0; claims = p.claims ++ least_claims (values_at p) 0 (values_at p) }
+after p (MeasureLine rs) = record p { due = due_after_verdicts p 0; claims = p.claims ++ least_claims (values_at p) }
 after p (VerdictLine q given) = after_verdict p q given
 after p (NoModelLine s) = record (after_named p s) { claims = claimed p (lack_of s) }
 after p (HasModelLine s w) = after_named p s

@@ -6,15 +6,10 @@ use Rattle.merge_model.specs.declared.operator.DistanceName.{DistanceName}
 use Rattle.formula_text.specs.ValuationWords.{valuation_word}
 use Rattle.derivation_log.specs.StepLines.{StepLine, step_words}
 use Rattle.merge_encoding.specs.Claims.{Assertion, NoModelOfConstraint, NoModelOfBase, NoNearer, NoBetter, NoBreaker, NoModelWith}
+use Rattle.report_lines.specs.ClaimsDue.{DueClaim}
 use Rattle.report_lines.specs.declared.kinds.Subject.{Subject}
 use Rattle.report_lines.specs.declared.kinds.Subject.TheVariants.{TheConstraint, BaseOf}
 use Rattle.merge_model.specs.OperatorWords.{distance_word, aggregator_word}
-
--- a claim that a step is to prove. It speaks of the first model that is shown, number 0, or of the model in
--- which query K is false, number K, counted from 1
-pub record DueClaim : Type 0 where
-  pub model : ℕ
-  pub says : Assertion
 
 pub data Item : Type 0 where
   HeadLine : Item

@@ -1,3 +1,4 @@
+pub mod ClaimsDue
 pub mod Items
 pub mod Places
 pub mod Holding
@@ -5,3 +6,7 @@ pub mod LineReading
 pub mod Following
 pub mod Judged
 pub mod ReportLaws
+pub mod Accepted
+pub mod Operators
+pub mod Parts
+pub mod Reports

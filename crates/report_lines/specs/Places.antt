@@ -22,7 +22,8 @@ use Rattle.merge_model.specs.Answers.{most_named}
 use Rattle.merge_encoding.specs.Named.{values_named, main_named}
 use Rattle.report_lines.specs.declared.kinds.Subject.{Subject}
 use Rattle.report_lines.specs.declared.kinds.Subject.TheVariants.{TheConstraint, BaseOf}
-use Rattle.report_lines.specs.Items.{Item, HeadLine, DistanceLine, AggregatorLine, ConflictsLine, ProblemLine, ModelLine, VectorLine, NearestLine, MeasureLine, VerdictLine, NoModelLine, HasModelLine, GaveUpLine, MainLine, LogLine, ShownLine, EndLine, DueClaim}
+use Rattle.report_lines.specs.Items.{Item, HeadLine, DistanceLine, AggregatorLine, ConflictsLine, ProblemLine, ModelLine, VectorLine, NearestLine, MeasureLine, VerdictLine, NoModelLine, HasModelLine, GaveUpLine, MainLine, LogLine, ShownLine, EndLine}
+use Rattle.report_lines.specs.ClaimsDue.{DueClaim}
 
 -- what the lines so far leave to know
 pub record Position : Type 0 where

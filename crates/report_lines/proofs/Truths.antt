@@ -21,11 +21,12 @@ use Rattle.merge_encoding.specs.MainDues.{MainDue, IsLimited, IsMain}
 use Rattle.merge_encoding.specs.Claims.{Assertion, NoModelOfConstraint, NoModelOfBase, NoNearer, NoBetter, NoBreaker, IsCandidate, IsBetterAt, AreUpTo, IsTrueThat, base_at, ask_at, values_at}
 use Rattle.merge_encoding.specs.Assumptions.{NoneSatisfies, assumed}
 use Rattle.merge_encoding.proofs.Same.{IsProperOf}
-use Rattle.accepted_answers.specs.Claims.{far_claims, least_claims, verdict_claims, unless_some, base_claims}
-use Rattle.accepted_answers.specs.Accepted.{Operator, values_in, IsWitness, IsWitnessedVerdict, IsWitnessedMerge, IsWitnessedEntry, IsWitnessedNaming}
-use Rattle.accepted_answers.proofs.Orders.{NotAbove, one_list, no_first_lower, none_below_zero, up_itself}
-use Rattle.accepted_answers.proofs.Lines.{IsOut, AreOut, out_front, numbered_out, IsVerdictOut, verdict_out, base_out}
-use Rattle.accepted_answers.proofs.Witnesses.{away_size, fit_long, models_long, copies_within, have_models, vector_exact, shown_nearest, full_long}
+use Rattle.report_lines.specs.declared.kinds.Subject.TheVariants.{TheConstraint}
+use Rattle.report_lines.specs.ClaimsDue.{of_first, far_claims, least_claims, verdict_claims, unless_some, base_claims}
+use Rattle.report_lines.specs.Accepted.{Operator, values_in, IsWitness, IsWitnessedVerdict, IsWitnessedMerge, IsWitnessedEntry, IsWitnessedNaming}
+use Rattle.report_lines.proofs.Orders.{NotAbove, one_list, no_first_lower, none_below_zero, up_itself}
+use Rattle.report_lines.proofs.Refuted.{IsOut, AreOut, out_front, numbered_out, IsVerdictOut, verdict_out, base_out}
+use Rattle.report_lines.proofs.Witnesses.{away_size, fit_long, models_long, copies_within, have_models, vector_exact, shown_nearest, full_long}
 use Rattle.merge_model.proofs.Nearest.{nearest_copies}
 
 -- what a distance and an aggregator keep
@@ -50,29 +51,29 @@ module _ (op : Operator) (laws : AreLaws op) (p : Profile) (asks : List Formula)
   truths_of v = values_in op p (vector_of op.dist p.bases v)
 
   -- no model of a base is nearer than the entry
-  far_by : (shown : Shown) → IsWitness op p shown → AreOut main (far_claims shown) → (j k : ℕ) → slice_index shown.vector j ≡ k → (u : List Bool) → j < length p.bases → IsModel p.atoms (base_at p j) u → k ≤ op.dist shown.model u
-  far_by shown wit out j zero e u lt mu = omega arith
-  far_by shown wit out j (suc k) e u lt mu =
+  far_by : (q : ℕ) (shown : Shown) → IsWitness op p shown → AreOut main (far_claims q shown.model shown.vector) → (j k : ℕ) → slice_index shown.vector j ≡ k → (u : List Bool) → j < length p.bases → IsModel p.atoms (base_at p j) u → k ≤ op.dist shown.model u
+  far_by q shown wit out j zero e u lt mu = omega arith
+  far_by q shown wit out j (suc k) e u lt mu =
       let model = wit.model in
       let within : j < length main.copies = omega (arith, m.size) in
       let long : length shown.vector ≡ length p.bases = ap length wit.vector ∙ length-map shown.nearest (op.dist shown.model) ∙ models_long p.atoms p.bases shown.nearest wit.nearest in
       let small : slice_index shown.vector j ≤ op.most p.atoms = wit.within j 0 (omega arith) in
       let size = away_size (op.most p.atoms) main.copies j m.counters_sized within in
       let same : 0 + j ≡ j = omega arith in
-      let here = subst (λ (i : ℕ). IsOut main (NoNearer i shown.model (suc k))) same (numbered_out main (λ i d. NoNearer i shown.model d) 0 shown.vector out j k (omega arith) e) in
+      let here = subst (λ (i : ℕ). IsOut main (NoNearer i shown.model (suc k))) same (numbered_out main (λ i d. record { model = q; says = NoNearer i shown.model d }) 0 shown.vector out j k (omega arith) e) in
       true_there (NoNearer j shown.model (suc k)) (within, model.size, omega arith, omega arith) here u mu
 
   -- the vector is exact
-  pub exact : (shown : Shown) → IsWitness op p shown → AreOut main (far_claims shown) → shown.vector ≡ vector_of op.dist p.bases shown.model
-  exact shown wit out =
+  pub exact : (q : ℕ) (shown : Shown) → IsWitness op p shown → AreOut main (far_claims q shown.model shown.vector) → shown.vector ≡ vector_of op.dist p.bases shown.model
+  exact q shown wit out =
       let model = wit.model in
       wit.vector ∙ vector_exact op.dist p.atoms shown.model model.size p.bases shown.nearest wit.nearest
-      (λ j u lt mu. far_by shown wit out j (slice_index (map (op.dist shown.model) shown.nearest) j) (ap (λ ks. slice_index ks j) wit.vector) u lt mu)
+      (λ j u lt mu. far_by q shown wit out j (slice_index (map (op.dist shown.model) shown.nearest) j) (ap (λ ks. slice_index ks j) wit.vector) u lt mu)
 
-  pub is_shown : (shown : Shown) → IsWitness op p shown → AreOut main (far_claims shown) → IsShown op.dist p shown
-  is_shown shown wit out =
+  pub is_shown : (q : ℕ) (shown : Shown) → IsWitness op p shown → AreOut main (far_claims q shown.model shown.vector) → IsShown op.dist p shown
+  is_shown q shown wit out =
       let model = wit.model in
-      let e = exact shown wit out in
+      let e = exact q shown wit out in
       record { vector = e; nearest = shown_nearest op.dist p.atoms shown.model model.size p.bases shown.nearest wit.nearest (sym wit.vector ∙ e) }
 
   pub dist_within : (v w : List Bool) → length v ≡ p.atoms → length v ≡ length w → op.dist v w ≤ op.most p.atoms
@@ -95,7 +96,7 @@ module _ (op : Operator) (laws : AreLaws op) (p : Profile) (asks : List Formula)
   better_by values fit long out j zero e lt u us c b = none_below_zero j (values_of u us) values e b
   better_by values fit long out j (suc k) e lt u us c b =
       let same : 0 + j ≡ j = omega arith in
-      let here = subst (λ (i : ℕ). IsOut main (NoBetter i values)) same (numbered_out main (λ i d. NoBetter i values) 0 values out j k lt e) in
+      let here = subst (λ (i : ℕ). IsOut main (NoBetter i values)) same (numbered_out main (λ i d. of_first (NoBetter i values)) 0 values out j k lt e) in
       true_there (NoBetter j values) (omega arith, fit, omega arith) here u us c b
 
   -- no candidate has values below
@@ -123,7 +124,7 @@ module _ (op : Operator) (laws : AreLaws op) (p : Profile) (asks : List Formula)
       (full_long p.times (vector_of op.dist p.bases u) (vector_of op.dist p.bases w) (length-map p.bases (away op.dist u) ∙ sym (length-map p.bases (away op.dist w))))
 
   -- the first valuation of a report
-  module _ (best : Shown) (wit : IsWitness op p best) (far : AreOut main (far_claims best)) (least : AreOut main (least_claims (values_in op p best.vector))) where
+  module _ (best : Shown) (wit : IsWitness op p best) (far : AreOut main (far_claims 0 best.model best.vector)) (least : AreOut main (least_claims (values_in op p best.vector))) where
     have : All (HasModel p.atoms) p.bases
     have = have_models p.atoms p.bases best.nearest wit.nearest
 
@@ -134,7 +135,7 @@ module _ (op : Operator) (laws : AreLaws op) (p : Profile) (asks : List Formula)
     copies = ap (λ ks. values_in op p ks) wit.vector
 
     truth : truths_of best.model ≡ values_of best.model best.nearest
-    truth = ap (λ ks. values_in op p ks) (sym (exact best wit far)) ∙ copies
+    truth = ap (λ ks. values_in op p ks) (sym (exact 0 best wit far)) ∙ copies
 
     lowest : (u : List Bool) → IsModel p.atoms p.constraint u → NotAbove (truths_of best.model) (truths_of u)
     lowest u mu =
@@ -175,10 +176,10 @@ module _ (op : Operator) (laws : AreLaws op) (p : Profile) (asks : List Formula)
         (subst (λ ks. AreUpTo (values_of u c.0) ks) is (up_itself (values_of u c.0))))
 
     -- a valuation with the rank of the first is closest too
-    as_good : (shown : Shown) → IsWitness op p shown → AreOut main (far_claims shown) → op.rank (repeated p.times best.vector) ≡ op.rank (repeated p.times shown.vector) → IsClosest op.dist op.rank p shown.model
-    as_good shown other out e =
+    as_good : (q : ℕ) (shown : Shown) → IsWitness op p shown → AreOut main (far_claims q shown.model shown.vector) → op.rank (repeated p.times best.vector) ≡ op.rank (repeated p.times shown.vector) → IsClosest op.dist op.rank p shown.model
+    as_good q shown other out e =
         let ranks : op.rank (full_of op.dist p best.model) ≡ op.rank (full_of op.dist p shown.model) =
-        ap (λ ks. op.rank (repeated p.times ks)) (sym (exact best wit far)) ∙ e ∙ ap (λ ks. op.rank (repeated p.times ks)) (exact shown other out) in
+        ap (λ ks. op.rank (repeated p.times ks)) (sym (exact 0 best wit far)) ∙ e ∙ ap (λ ks. op.rank (repeated p.times ks)) (exact q shown other out) in
         record {
           consistent = have;
           model = other.model;
@@ -187,7 +188,7 @@ module _ (op : Operator) (laws : AreLaws op) (p : Profile) (asks : List Formula)
 
     one_verdict : (measure : List ℕ) → measure ≡ op.rank (repeated p.times best.vector) → (q : ℕ) → q < length asks → (verdict : Verdict) → IsWitnessedVerdict op p measure (ask_at asks q) verdict → IsVerdictOut main (values_in op p best.vector) q verdict → IsVerdict op.dist op.rank p (ask_at asks q) verdict
     one_verdict measure e q lt Yes w out = is_entailed q lt out
-    one_verdict measure e q lt (No shown) w out = (as_good shown w.0 out (sym e ∙ w.1), is_shown shown w.0 out, w.2)
+    one_verdict measure e q lt (No shown) w out = (as_good (q + 1) shown w.0 out (sym e ∙ w.1), is_shown (q + 1) shown w.0 out, w.2)
 
   judged : (P Q : Formula → Verdict → Type 0) (fs : List Formula) (verdicts : List Verdict) → AllZip P fs verdicts → ((i : ℕ) → i < length fs → P (slice_index_or fs i formula.Top) (slice_index_or verdicts i Yes) → Q (slice_index_or fs i formula.Top) (slice_index_or verdicts i Yes)) → AllZip Q fs verdicts
   judged P Q [] [] h to = tt
@@ -202,15 +203,15 @@ module _ (op : Operator) (laws : AreLaws op) (p : Profile) (asks : List Formula)
   zip_size P (f ∷ fs) (v ∷ vs) h = ap suc (zip_size P fs vs h.1)
 
   pub merged_right : (best : Shown) (measure : List ℕ) (verdicts : List Verdict) → IsWitnessedMerge op p asks best measure verdicts →
-      AreOut main (far_claims best ++ (least_claims (values_in op p best.vector) ++ verdict_claims (values_in op p best.vector) 0 verdicts)) → IsRightMerge op.dist op.rank p asks best measure verdicts
+      AreOut main (far_claims 0 best.model best.vector ++ (least_claims (values_in op p best.vector) ++ verdict_claims (values_in op p best.vector) 0 verdicts)) → IsRightMerge op.dist op.rank p asks best measure verdicts
   merged_right best measure verdicts w out =
       let values = values_in op p best.vector in
-      let front = out_front main (far_claims best) (least_claims values ++ verdict_claims values 0 verdicts) out in
+      let front = out_front main (far_claims 0 best.model best.vector) (least_claims values ++ verdict_claims values 0 verdicts) out in
       let back = out_front main (least_claims values) (verdict_claims values 0 verdicts) front.1 in
       let size = zip_size (IsWitnessedVerdict op p measure) asks verdicts w.judged in
       record {
         closest = is_closest best w.first front.0 back.0;
-        shown = is_shown best w.first front.0;
+        shown = is_shown 0 best w.first front.0;
         measured = w.measured;
         judged = judged (IsWitnessedVerdict op p measure) (IsVerdict op.dist op.rank p) asks verdicts w.judged (λ i lt r.
             let same : 0 + i ≡ i = omega arith in
@@ -236,13 +237,13 @@ module _ (op : Operator) (laws : AreLaws op) (p : Profile) (asks : List Formula)
   entries_size (f ∷ fs) [] h = absurd h
   entries_size (f ∷ fs) (e ∷ es) h = ap suc (entries_size fs es h.1)
 
-  constraint_by : (entry : Option (List Bool)) → AreOut main (unless_some NoModelOfConstraint entry) → entry ≡ None → HasModel p.atoms p.constraint → ⊥
+  constraint_by : (entry : Option (List Bool)) → AreOut main (unless_some TheConstraint entry) → entry ≡ None → HasModel p.atoms p.constraint → ⊥
   constraint_by None out is = true_there NoModelOfConstraint tt out.0
   constraint_by (Some v) out is = absurd (cc)
 
-  pub named_right : (constraint : Option (List Bool)) (agents : List (Option (List Bool))) → IsWitnessedNaming p constraint agents → AreOut main (unless_some NoModelOfConstraint constraint ++ base_claims 0 agents) → NamesModels p constraint agents
+  pub named_right : (constraint : Option (List Bool)) (agents : List (Option (List Bool))) → IsWitnessedNaming p constraint agents → AreOut main (unless_some TheConstraint constraint ++ base_claims 0 agents) → NamesModels p constraint agents
   named_right constraint agents w out =
-      let front = out_front main (unless_some NoModelOfConstraint constraint) (base_claims 0 agents) out in
+      let front = out_front main (unless_some TheConstraint constraint) (base_claims 0 agents) out in
       let size = entries_size p.bases agents w.base_entries in
       record {
         constraint_named = entry_by p.constraint constraint w.constraint_entry (constraint_by constraint front.0);

@@ -1,11 +1,8 @@
-//! The answers of accepted reports are right: what plain evaluation says of an answer, with a written refutation of
-//! each claim that it makes, is enough for it to be what merging the problem comes to.
-#![tactic(auto)]
-
+// Accepted parts of a report make its answer right.
 ghost use Rattle.std.specs.Prelude.{◌⊎◌};
 ghost use Rattle.merge_model.specs.Answers.{dist_named, rank_named, IsRight, IsNamed};
-ghost use Rattle.accepted_answers.specs.Accepted.{Parts, IsAccepted, operator};
-ghost use Rattle.accepted_answers.specs.Named.{operator_named};
+ghost use Rattle.report_lines.specs.Accepted.{Parts, AreAccepted, operator};
+ghost use Rattle.report_lines.specs.Operators.{operator_named};
 
 use agent_copies::Counted;
 use aggregators::Levelled;
@@ -16,7 +13,7 @@ use merge_model::{AggregatorName, DistanceName, Drastic, Hamming, Leximax, Max, 
 /// The answer of an accepted report is right where it merges, and names the formulas that have no model where it does
 /// not, whoever wrote the report.
 pub fn accepted_law<D: Counted, A: Levelled>(distance: &D, aggregator: &A)
-    ensures { (parts : Parts) → IsAccepted (operator (D.dist distance.now) (D.most distance.now) (D.due distance.now) (A.rank aggregator.now) (A.levels_of aggregator.now) (A.levels_due aggregator.now)) parts →
+    ensures { (parts : Parts) → AreAccepted (operator (D.dist distance.now) (D.most distance.now) (D.due distance.now) (A.rank aggregator.now) (A.levels_of aggregator.now) (A.levels_due aggregator.now)) parts →
         IsRight (D.dist distance.now) (A.rank aggregator.now) parts.problem parts.answer ⊎ IsNamed parts.problem parts.answer }
 {
     frame_law(distance, aggregator);
@@ -26,7 +23,7 @@ pub fn accepted_law<D: Counted, A: Levelled>(distance: &D, aggregator: &A)
 
 /// The same, by the names of the distance and of the aggregator.
 pub fn accepted_named(distance: DistanceName, aggregator: AggregatorName)
-    ensures { (parts : Parts) → IsAccepted (operator_named distance aggregator parts.problem.atoms) parts →
+    ensures { (parts : Parts) → AreAccepted (operator_named distance aggregator parts.problem.atoms) parts →
         IsRight (dist_named distance parts.problem.atoms) (rank_named aggregator) parts.problem parts.answer ⊎ IsNamed parts.problem parts.answer }
 {
     match (distance, aggregator) {

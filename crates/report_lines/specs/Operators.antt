@@ -4,7 +4,7 @@ use Rattle.merge_model.specs.declared.operator.DistanceName.{DistanceName}
 use Rattle.merge_model.specs.Answers.{dist_named, rank_named, most_named}
 use Rattle.formulas.specs.Names.{AtomList}
 use Rattle.merge_encoding.specs.Named.{counter_named, levels_named, values_named}
-use Rattle.accepted_answers.specs.Accepted.{Operator}
+use Rattle.report_lines.specs.Accepted.{Operator}
 
 -- over these atoms
 abbrev pub operator_named : DistanceName → AggregatorName → AtomList → Operator

@@ -19,7 +19,7 @@ use Rattle.derivation_log.specs.Logs.{Log, known_of, IsSound}
 use Rattle.clause_store.specs.Refutes.{Refutes}
 use Rattle.merge_encoding.specs.MainDues.{DueCounter, DueLevels, MainDue, main_due}
 use Rattle.merge_encoding.specs.Assumptions.{assumed}
-use Rattle.accepted_answers.specs.Claims.{claims_due}
+use Rattle.report_lines.specs.ClaimsDue.{claims_due}
 
 -- what a distance and an aggregator mean
 pub record Operator : Type 0 where
@@ -84,10 +84,10 @@ IsWitnessed op p asks GaveUp = ⊥
 abbrev pub Shows : Log → List Lit → ℕ → Type 0
 Shows log assumptions number = (length log.main ≤ number) × (clause : List Lit) × (slice_get (known_of log) number ≡ Some clause) × Refutes clause assumptions
 
-pub record IsAccepted (op : Operator) (parts : Parts) : Type 0 where
+pub record AreAccepted (op : Operator) (parts : Parts) : Type 0 where
   pub sound : IsSound (log_of op parts).main parts.steps
   pub witnessed : IsWitnessed op (profile_of parts.problem) parts.problem.asks parts.answer
-  pub shown : AllZip (λ claim number. Shows (log_of op parts) (assumed (main_of op parts.problem) claim) number) (claims_due (values_in op (profile_of parts.problem)) parts.answer) parts.shown
+  pub shown : AllZip (λ claim number. Shows (log_of op parts) (assumed (main_of op parts.problem) claim.says) number) (claims_due (values_in op (profile_of parts.problem)) parts.answer) parts.shown
 
 abbrev pub operator : (List Bool → List Bool → ℕ) → (ℕ → ℕ) → DueCounter → (List ℕ → List ℕ) → (List ℕ → ℕ → List ℕ) → DueLevels → Operator
 operator dist most due rank levels_of levels_due = record { dist = dist; most = most; due = due; rank = rank; levels_of = levels_of; levels_due = levels_due }

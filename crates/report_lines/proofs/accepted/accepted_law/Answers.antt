@@ -10,13 +10,13 @@ use Rattle.merge_encoding.specs.MainDues.{IsMain, IsLimited, main_due}
 use Rattle.merge_encoding.specs.Claims.{Assertion, IsTrueThat}
 use Rattle.merge_encoding.specs.Assumptions.{NoneSatisfies, assumed}
 use Rattle.merge_encoding.proofs.Same.{IsProperOf, proper_in}
-use Rattle.accepted_answers.proofs.Truths.{shared_size}
-use Rattle.accepted_answers.specs.Claims.{claims_due}
-use Rattle.accepted_answers.specs.Accepted.{Operator, operator, Parts, main_of, values_in, IsWitnessed, IsAccepted}
-use Rattle.accepted_answers.proofs.Lines.{AreOut, all_out}
-use Rattle.accepted_answers.proofs.Truths.{AreLaws, merged_right, named_right}
+use Rattle.report_lines.proofs.Truths.{shared_size}
+use Rattle.report_lines.specs.ClaimsDue.{claims_due}
+use Rattle.report_lines.specs.Accepted.{Operator, operator, Parts, main_of, values_in, IsWitnessed, AreAccepted}
+use Rattle.report_lines.proofs.Refuted.{AreOut, all_out}
+use Rattle.report_lines.proofs.Truths.{AreLaws, merged_right, named_right}
 use Rattle.merge_encoding.proofs.Limits.{is_limited}
-use Rattle.accepted_answers.proofs.accepted_law.Goals as goal
+use Rattle.report_lines.proofs.accepted.accepted_law.Goals as goal
 
 module _ (op : Operator) (laws : AreLaws op) (problem : Problem) (m : IsMain op.dist (op.most (profile_of problem).atoms) op.levels_of (profile_of problem) problem.asks (main_of op problem))
     (true_there : (claim : Assertion) → IsProperOf (main_of op problem) (profile_of problem).atoms claim → NoneSatisfies (main_of op problem) (assumed (main_of op problem) claim) → IsTrueThat op.dist (op.most (profile_of problem).atoms) op.levels_of (profile_of problem) problem.asks claim) where
@@ -27,7 +27,7 @@ module _ (op : Operator) (laws : AreLaws op) (problem : Problem) (m : IsMain op.
 
 accepted_true : (op : Operator) → AreLaws op → RefuteLaw → ((p : Profile) (asks : List Formula) → IsLimited p asks → IsMain op.dist (op.most p.atoms) op.levels_of p asks (main_due op.due op.levels_due p asks)) →
     ((p : Profile) (asks : List Formula) (claim : Assertion) → IsLimited p asks → IsProperOf (main_due op.due op.levels_due p asks) p.atoms claim → NoneSatisfies (main_due op.due op.levels_due p asks) (assumed (main_due op.due op.levels_due p asks) claim) → IsTrueThat op.dist (op.most p.atoms) op.levels_of p asks claim) →
-    (parts : Parts) → IsAccepted op parts → IsRight op.dist op.rank parts.problem parts.answer ⊎ IsNamed parts.problem parts.answer
+    (parts : Parts) → AreAccepted op parts → IsRight op.dist op.rank parts.problem parts.answer ⊎ IsNamed parts.problem parts.answer
 accepted_true op laws refuted frame true_there parts h =
     let p = profile_of parts.problem in
     let asks = parts.problem.asks in

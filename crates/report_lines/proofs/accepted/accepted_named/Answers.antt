@@ -4,12 +4,12 @@ use Rattle.merge_model.specs.declared.operator.AggregatorName.TheVariants.{Sum, 
 use Rattle.merge_model.specs.declared.operator.DistanceName.{DistanceName}
 use Rattle.merge_model.specs.declared.operator.DistanceName.TheVariants.{Drastic, Hamming}
 use Rattle.merge_model.specs.Answers.{dist_named, rank_named, IsRight, IsNamed}
-use Rattle.accepted_answers.specs.Accepted.{Parts, IsAccepted}
-use Rattle.accepted_answers.specs.Named.{operator_named}
-use Rattle.accepted_answers.proofs.accepted_named.Goals as goal
+use Rattle.report_lines.specs.Accepted.{Parts, AreAccepted}
+use Rattle.report_lines.specs.Operators.{operator_named}
+use Rattle.report_lines.proofs.accepted.accepted_named.Goals as goal
 
 abbrev IsTruthful : DistanceName → AggregatorName → Type 0
-IsTruthful distance aggregator = (parts : Parts) → IsAccepted (operator_named distance aggregator parts.problem.atoms) parts → IsRight (dist_named distance parts.problem.atoms) (rank_named aggregator) parts.problem parts.answer ⊎ IsNamed parts.problem parts.answer
+IsTruthful distance aggregator = (parts : Parts) → AreAccepted (operator_named distance aggregator parts.problem.atoms) parts → IsRight (dist_named distance parts.problem.atoms) (rank_named aggregator) parts.problem parts.answer ⊎ IsNamed parts.problem parts.answer
 
 by_names : (d e : DistanceName) (a b : AggregatorName) → d ≡ e → a ≡ b → IsTruthful e b → IsTruthful d a
 by_names d e a b p q h = subst (λ (x : DistanceName). IsTruthful x a) (sym p) (subst (λ (y : AggregatorName). IsTruthful e y) (sym q) h)

@@ -1,4 +1,0 @@
-pub mod Orders
-pub mod Lines
-pub mod Witnesses
-pub mod Truths
