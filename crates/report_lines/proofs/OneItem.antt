@@ -16,7 +16,8 @@ use Rattle.report_lines.specs.declared.kinds.Kind.{Kind}
 use Rattle.merge_model.specs.OperatorWords.{distance_word, aggregator_word}
 use Rattle.report_lines.specs.declared.kinds.Subject.{Subject}
 use Rattle.report_lines.specs.declared.kinds.Subject.TheVariants.{TheConstraint, BaseOf}
-use Rattle.report_lines.specs.Items.{Item, DistanceLine, AggregatorLine, ConflictsLine, ProblemLine, ModelLine, VectorLine, NearestLine, MeasureLine, VerdictLine, HasModelLine, GaveUpLine, MainLine, LogLine, ShownLine, DueClaim, item_words, yes_word, subject_words, claim_words}
+use Rattle.report_lines.specs.ClaimsDue.{DueClaim}
+use Rattle.report_lines.specs.Items.{Item, DistanceLine, AggregatorLine, ConflictsLine, ProblemLine, ModelLine, VectorLine, NearestLine, MeasureLine, VerdictLine, HasModelLine, GaveUpLine, MainLine, LogLine, ShownLine, item_words, yes_word, subject_words, claim_words}
 use Rattle.formula_text.specs.ValuationWords.{valuation_word}
 use Rattle.report_lines.specs.Places.{Position, DueAt, IsProblemLine, IsModelLine, IsNamedLine, IsAnswerLine, IsProofLine, first_word}
 

@@ -1,5 +1,5 @@
 -- What stands after a line.
-use Rattle.std.specs.Prelude.{◌≡◌, ℕ, ◌+◌, nat_lt, Bool, true, false, if◌then◌else◌, List, [], ◌∷◌, ◌++◌, drop}
+use Rattle.std.specs.Prelude.{◌≡◌, ℕ, ◌+◌, ◌==◌, nat_lt, Bool, true, false, if◌then◌else◌, List, [], ◌∷◌, ◌++◌, drop}
 use Rattle.merge_encoding.specs.Claims.{Assertion, NoBreaker}
 use Rattle.problem_reading.specs.declared.said.Said.{Said}
 use Rattle.problem_reading.specs.declared.said.Said.TheVariants.{Nothing, Names, Condition, Belief, Query}
@@ -11,7 +11,7 @@ use Rattle.report_lines.specs.declared.kinds.Kind.TheVariants as kind
 use Rattle.report_lines.specs.declared.kinds.Subject.{Subject}
 use Rattle.report_lines.specs.declared.kinds.Subject.TheVariants.{TheConstraint, BaseOf}
 use Rattle.report_lines.specs.Items.{Item, HeadLine, DistanceLine, AggregatorLine, ConflictsLine, ProblemLine, ModelLine, VectorLine, NearestLine, MeasureLine, VerdictLine, NoModelLine, HasModelLine, GaveUpLine, MainLine, LogLine, ShownLine, EndLine}
-use Rattle.report_lines.specs.ClaimsDue.{of_first, far_claims, least_claims, lack_of}
+use Rattle.report_lines.specs.ClaimsDue.{DueClaim, of_first, far_claims, least_claims, lack_of}
 use Rattle.report_lines.specs.Places.{Position, agents_at, asks_at, values_at}
 use Rattle.derivation_log.specs.Logs.{is_learned}
 use Rattle.derivation_log.specs.StepLines.{StepLine}
