@@ -1,7 +1,7 @@
+pub mod OneKind
 pub mod Laws
 pub mod Problems
 pub mod Replies
-pub mod ReportTexts
 pub mod SameProblems
 pub mod Told
 pub mod WordLists

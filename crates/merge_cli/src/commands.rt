@@ -2,6 +2,7 @@ ghost use Rattle.std.specs.Prelude.{◌≡◌, ◌≢◌, ℕ, IfSome, IfNone, d
 
 use edge::Words;
 use merge_model::{AggregatorName, DistanceName};
+use report_lines::CONFLICT_LIMIT;
 use report_words::number_of;
 
 /// What the words of a command line ask for.
@@ -10,6 +11,8 @@ pub enum Command {
     /// `merge D A CONFLICTS`: merges the text under this distance and this aggregator, with at most
     /// so many conflicts a question; `merge D A` has the usual number.
     Merge(DistanceName, AggregatorName, u64),
+    /// `check`: checks a report.
+    Check,
 }
 
 ghost use Rattle.merge_cli.specs.Commands.{IsBudget, IsCommand, IsNoCommand, limit_of};
@@ -20,10 +23,7 @@ const TEXT_LIMIT: usize = 262_144;
 /// The number of conflicts a question where no word gives one.
 const USUAL_CONFLICTS: u64 = 100_000;
 
-/// The greatest number of conflicts a question.
-const CONFLICT_LIMIT: u64 = 1_000_000;
-
-/// The command that the words spell, of those that are built.
+/// The command that the words spell.
 pub fn command_of(words: &Words) -> Option<Command>
     ensures some { IfSome result (IsCommand words.now) }
     ensures none { IfNone result (IsNoCommand words.now) }
@@ -42,6 +42,7 @@ pub fn command_of(words: &Words) -> Option<Command>
             AggregatorName::of_word(words.get(2))?,
             conflicts_of(words.get(3))?,
         )),
+        "check" if words.len() == 1 => Some(Command::Check),
         _ => None,
     }
 }
@@ -64,5 +65,6 @@ pub(crate) fn limit(command: Command) -> Option<usize>
 {
     match command {
         Command::Merge(..) => Some(TEXT_LIMIT),
+        Command::Check => None,
     }
 }

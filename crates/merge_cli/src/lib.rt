@@ -2,20 +2,20 @@
 #![tactic(auto)]
 
 mod answering;
+mod checking;
 mod commands;
 mod exact;
 mod merging;
 mod reading;
 mod refusal;
 mod reply;
-mod report;
 /// The exit statuses.
 pub mod status;
+mod standin;
 #[cfg(test)]
 mod tests;
 mod top;
 
 pub use commands::{Command, command_of};
 pub use exact::{lacking_is_exact, refused_words_are_exact, too_long_is_exact};
-pub use report::write_answer;
 pub use top::{Outcome, run};
