@@ -1,0 +1,3 @@
+pub mod FrontJudged
+pub mod FrontSaid
+pub mod FrontSteps
