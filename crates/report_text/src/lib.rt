@@ -3,3 +3,6 @@
 
 /// Why a line does not lead on.
 pub mod stop;
+mod writing;
+
+pub use writing::{write_answer, write_report};

@@ -1,0 +1,2 @@
+pub mod WritingTexts
+pub mod WritingProofs
