@@ -5,3 +5,6 @@
 pub mod front;
 /// Why a line does not lead on.
 pub mod stop;
+mod writing;
+
+pub use writing::{write_answer, write_report};
