@@ -1,5 +1,10 @@
 //! Reports as texts: written from what a search found, and checked line by line by whoever reads them.
 #![tactic(auto)]
 
+/// The lines before the answer.
+pub mod front;
 /// Why a line does not lead on.
 pub mod stop;
+mod writing;
+
+pub use writing::{write_answer, write_report};
