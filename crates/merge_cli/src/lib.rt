@@ -10,8 +10,8 @@ mod reading;
 mod refusal;
 mod reply;
 /// The exit statuses.
-pub mod status;
 mod standin;
+pub mod status;
 #[cfg(test)]
 mod tests;
 mod top;
