@@ -3,3 +3,6 @@
 
 /// Why a line does not lead on.
 pub mod stop;
+mod written;
+
+pub use written::written_is_accepted;

@@ -1,0 +1,9 @@
+pub mod WrittenRange
+pub mod WrittenSteps
+pub mod WrittenText
+pub mod WrittenRun
+pub mod WrittenPlaces
+pub mod WrittenHead
+pub mod WrittenLog
+pub mod WrittenAnswer
+pub mod WrittenWhole
