@@ -13,23 +13,24 @@ use Rattle.problem_reading.specs.declared.stop.TextStop.{TextStop}
 use Rattle.problem_reading.specs.declared.stop.TextStop.TheVariants.{Fault, NoMemory}
 use Rattle.problem_reading.specs.Spelling.{Spelled, StopsText}
 use Rattle.merge_cli.specs.declared.reply.Reply.{Reply}
-use Rattle.merge_cli.specs.Merge.{built_limit, MergeAnswers, status_of, answer_report, merged, inconsistent, not_built}
+use Rattle.merge_cli.specs.Merge.{built_limit, MergeAnswers, status_of, merged, inconsistent, not_built}
 use Rattle.merge_cli.specs.Refusals.{SaysStop}
+use Rattle.merge_cli.specs.ReportLines.{report_text}
 use Rattle.merge_cli.specs.Rows.{ProblemTextAnswers, refused, of_problem}
 
-pub merge_answered : (distance : DistanceName) (aggregator : AggregatorName) (problem : Problem) (answer : Answer) (status : ℕ) (text : List ℕ)
+pub merge_answered : (distance : DistanceName) (aggregator : AggregatorName) (conflicts : ℕ) (problem : Problem) (answer : Answer) (status : ℕ) (text : List ℕ)
     → length problem.atoms ≤ built_limit
     → IsRight (dist_named distance problem.atoms) (rank_named aggregator) problem answer ⊎ IsNamed problem answer
-    → status ≡ status_of answer → text ≡ answer_report distance aggregator problem answer
-    → MergeAnswers distance aggregator problem status text
-merge_answered d a p (Merged best measure verdicts) s t few (inl right) status text =
+    → status ≡ status_of answer → text ≡ report_text distance aggregator conflicts problem answer
+    → MergeAnswers distance aggregator conflicts problem status text
+merge_answered d a b p (Merged best measure verdicts) s t few (inl right) status text =
     merged few status (record { answer = Merged best measure verdicts; right = right; says = text })
-merge_answered d a p (Inconsistent constraint agents) s t few (inr named) status text =
+merge_answered d a b p (Inconsistent constraint agents) s t few (inr named) status text =
     inconsistent few status (record { answer = Inconsistent constraint agents; named = named; says = text })
-merge_answered d a p (Merged best measure verdicts) s t few (inr named) status text = absurd named
-merge_answered d a p (Inconsistent constraint agents) s t few (inl right) status text = absurd right
-merge_answered d a p GaveUp s t few (inl right) status text = absurd right
-merge_answered d a p GaveUp s t few (inr named) status text = absurd named
+merge_answered d a b p (Merged best measure verdicts) s t few (inr named) status text = absurd named
+merge_answered d a b p (Inconsistent constraint agents) s t few (inl right) status text = absurd right
+merge_answered d a b p GaveUp s t few (inl right) status text = absurd right
+merge_answered d a b p GaveUp s t few (inr named) status text = absurd named
 
 -- a text that spells a problem is answered as the problem is, and another by its first fault
 module _ {E : Type 0} (answers : Problem → ℕ → List ℕ → Type 0) (read : List ℕ) where
@@ -59,14 +60,14 @@ right_lacks_none d a p (Merged best measure verdicts) right lacks =
 right_lacks_none d a p (Inconsistent constraint agents) right lacks = right
 right_lacks_none d a p GaveUp right lacks = right
 
-pub merge_lacks : (distance : DistanceName) (aggregator : AggregatorName) (problem : Problem) (status : ℕ) (text : List ℕ)
-    → MergeAnswers distance aggregator problem status text → status ≡ 8 → LacksModel (profile_of problem)
-merge_lacks d a p s text (not_built many status said) eight = absurd (omega arith)
-merge_lacks d a p s text (merged few status reports) eight = absurd (omega arith)
-merge_lacks d a p s text (inconsistent few status reports) eight = named_has p reports.answer reports.named
+pub merge_lacks : (distance : DistanceName) (aggregator : AggregatorName) (conflicts : ℕ) (problem : Problem) (status : ℕ) (text : List ℕ)
+    → MergeAnswers distance aggregator conflicts problem status text → status ≡ 8 → LacksModel (profile_of problem)
+merge_lacks d a b p s text (not_built many status said) eight = absurd (omega arith)
+merge_lacks d a b p s text (merged few status reports) eight = absurd (omega arith)
+merge_lacks d a b p s text (inconsistent few status reports) eight = named_has p reports.answer reports.named
 
-pub merge_lacks_none : (distance : DistanceName) (aggregator : AggregatorName) (problem : Problem) (status : ℕ) (text : List ℕ)
-    → MergeAnswers distance aggregator problem status text → status ≡ 0 → LacksModel (profile_of problem) → ⊥
-merge_lacks_none d a p s text (not_built many status said) none lacks = absurd (omega arith)
-merge_lacks_none d a p s text (inconsistent few status reports) none lacks = absurd (omega arith)
-merge_lacks_none d a p s text (merged few status reports) none lacks = right_lacks_none d a p reports.answer reports.right lacks
+pub merge_lacks_none : (distance : DistanceName) (aggregator : AggregatorName) (conflicts : ℕ) (problem : Problem) (status : ℕ) (text : List ℕ)
+    → MergeAnswers distance aggregator conflicts problem status text → status ≡ 0 → LacksModel (profile_of problem) → ⊥
+merge_lacks_none d a b p s text (not_built many status said) none lacks = absurd (omega arith)
+merge_lacks_none d a b p s text (inconsistent few status reports) none lacks = absurd (omega arith)
+merge_lacks_none d a b p s text (merged few status reports) none lacks = right_lacks_none d a p reports.answer reports.right lacks

@@ -24,12 +24,12 @@ answered_by_command words command before now room_before room_now (Err stop) spe
 pub answered_by_text : {E : Type 0} (command : Command) (read : List ℕ) (result : Result Reply E)
     → IfOk result (λ reply. ProblemTextAnswers (ProblemAnswers command) read reply.status reply.text.items)
     → IfOk result (λ reply. TextAnswers command read reply.status reply.text.items)
-answered_by_text (Merge distance aggregator) read result row = row
+answered_by_text (Merge distance aggregator conflicts) read result row = row
 
 -- the reply of a merge is one to the problem
-pub answered_by_merge : {E : Type 0} (command : Command) (distance : DistanceName) (aggregator : AggregatorName) (problem : Problem) (result : Result Reply E)
-    → command ≡ Merge distance aggregator → IfOk result (λ reply. MergeAnswers distance aggregator problem reply.status reply.text.items)
+pub answered_by_merge : {E : Type 0} (command : Command) (distance : DistanceName) (aggregator : AggregatorName) (conflicts : ℕ) (problem : Problem) (result : Result Reply E)
+    → command ≡ Merge distance aggregator conflicts → IfOk result (λ reply. MergeAnswers distance aggregator conflicts problem reply.status reply.text.items)
     → IfOk result (λ reply. ProblemAnswers command problem reply.status reply.text.items)
-answered_by_merge command distance aggregator problem result is row =
+answered_by_merge command distance aggregator conflicts problem result is row =
     let P : Command → Type 0 = λ c. IfOk result (λ reply. ProblemAnswers c problem reply.status reply.text.items) in
     subst P (sym is) row

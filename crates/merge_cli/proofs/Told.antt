@@ -53,17 +53,17 @@ problem_row command bytes now s text p reads (of_text end few row) spelled =
     ]
 
 -- what `merge` answers with status 0, and with status 8
-merged_row : (d : DistanceName) (a : AggregatorName) (problem : Problem) (status : ℕ) (text : List ℕ)
-    → MergeAnswers d a problem status text → status ≡ 0 → ReportsMerge d a problem text
-merged_row d a p s text (not_built many status said) none = absurd (omega arith)
-merged_row d a p s text (inconsistent few status reports) none = absurd (omega arith)
-merged_row d a p s text (merged few status reports) none = reports
+merged_row : (d : DistanceName) (a : AggregatorName) (b : ℕ) (problem : Problem) (status : ℕ) (text : List ℕ)
+    → MergeAnswers d a b problem status text → status ≡ 0 → ReportsMerge d a b problem text
+merged_row d a b p s text (not_built many status said) none = absurd (omega arith)
+merged_row d a b p s text (inconsistent few status reports) none = absurd (omega arith)
+merged_row d a b p s text (merged few status reports) none = reports
 
-lacking_row : (d : DistanceName) (a : AggregatorName) (problem : Problem) (status : ℕ) (text : List ℕ)
-    → MergeAnswers d a problem status text → status ≡ 8 → ReportsLack d a problem text
-lacking_row d a p s text (not_built many status said) eight = absurd (omega arith)
-lacking_row d a p s text (merged few status reports) eight = absurd (omega arith)
-lacking_row d a p s text (inconsistent few status reports) eight = reports
+lacking_row : (d : DistanceName) (a : AggregatorName) (b : ℕ) (problem : Problem) (status : ℕ) (text : List ℕ)
+    → MergeAnswers d a b problem status text → status ≡ 8 → ReportsLack d a b problem text
+lacking_row d a b p s text (not_built many status said) eight = absurd (omega arith)
+lacking_row d a b p s text (merged few status reports) eight = absurd (omega arith)
+lacking_row d a b p s text (inconsistent few status reports) eight = reports
 
 -- what a whole run says
 module _ (words : List (List ℕ)) (before now : Option (List ℕ)) (room_before room_now status : ℕ) (text : List ℕ)
@@ -144,8 +144,8 @@ module _ (words : List (List ℕ)) (before now : Option (List ℕ)) (room_before
   not_merged_run command problem asks lack = λ none.
       lacks_none command problem status text (asked_row command problem asks (λ one. omega arith)) none lack
 
-  pub merged_run : (d : DistanceName) (a : AggregatorName) (problem : Problem) → AsksProblem before words (Merge d a) problem → status ≡ 0 → ReportsMerge d a problem text
-  merged_run d a problem asks none = merged_row d a problem status text (asked_row (Merge d a) problem asks (λ one. omega arith)) none
+  pub merged_run : (d : DistanceName) (a : AggregatorName) (b : ℕ) (problem : Problem) → AsksProblem before words (Merge d a b) problem → status ≡ 0 → ReportsMerge d a b problem text
+  merged_run d a b problem asks none = merged_row d a b problem status text (asked_row (Merge d a b) problem asks (λ one. omega arith)) none
 
-  pub inconsistent_run : (d : DistanceName) (a : AggregatorName) (problem : Problem) → AsksProblem before words (Merge d a) problem → status ≡ 8 → ReportsLack d a problem text
-  inconsistent_run d a problem asks eight = lacking_row d a problem status text (asked_row (Merge d a) problem asks (λ one. omega arith)) eight
+  pub inconsistent_run : (d : DistanceName) (a : AggregatorName) (b : ℕ) (problem : Problem) → AsksProblem before words (Merge d a b) problem → status ≡ 8 → ReportsLack d a b problem text
+  inconsistent_run d a b problem asks eight = lacking_row d a b problem status text (asked_row (Merge d a b) problem asks (λ one. omega arith)) eight

@@ -11,11 +11,11 @@ use Rattle.merge_cli.specs.Rows.{ReadAnswers, ProblemTextAnswers}
 
 -- what a command answers to a problem
 abbrev pub ProblemAnswers : Command → Problem → ℕ → List ℕ → Type 0
-ProblemAnswers (Merge distance aggregator) = MergeAnswers distance aggregator
+ProblemAnswers (Merge distance aggregator conflicts) = MergeAnswers distance aggregator conflicts
 
 -- what a command answers to a text that it read to its end
 abbrev pub TextAnswers : Command → List ℕ → ℕ → List ℕ → Type 0
-TextAnswers (Merge distance aggregator) = ProblemTextAnswers (ProblemAnswers (Merge distance aggregator))
+TextAnswers (Merge distance aggregator conflicts) = ProblemTextAnswers (ProblemAnswers (Merge distance aggregator conflicts))
 
 -- A table of answers: what the source tells after the run, what was read, the status and the text.
 abbrev pub Table : Type 1
@@ -23,8 +23,8 @@ Table = Option (List ℕ) → List ℕ → ℕ → List ℕ → Type 0
 
 -- what a command answers to what it read
 abbrev pub CommandAnswers : Command → Table
-CommandAnswers (Merge distance aggregator) =
-    ReadAnswers (limit_of (Merge distance aggregator)) (TextAnswers (Merge distance aggregator))
+CommandAnswers (Merge distance aggregator conflicts) =
+    ReadAnswers (limit_of (Merge distance aggregator conflicts)) (TextAnswers (Merge distance aggregator conflicts))
 
 -- the answers to any words
 pub data Answers (words : List (List ℕ)) (now : Option (List ℕ)) (read : List ℕ) (status : ℕ) (text : List ℕ) : Type 0 where

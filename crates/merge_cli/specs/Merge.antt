@@ -12,15 +12,6 @@ use Rattle.merge_cli.specs.ReportLines.{report_text}
 abbrev pub built_limit : ℕ
 built_limit = 8
 
--- the number of conflicts that a report names where no word gives one
-abbrev pub usual_conflicts : ℕ
-usual_conflicts = 100000
-
--- the text of the answer to a problem
-abbrev pub answer_report : DistanceName → AggregatorName → Problem → Answer → List ℕ
-answer_report distance aggregator problem answer =
-    report_text distance aggregator usual_conflicts problem answer
-
 -- the status that tells what an answer is
 abbrev pub status_of : Answer → ℕ
 status_of (Merged best measure verdicts) = 0
@@ -28,25 +19,25 @@ status_of (Inconsistent constraint agents) = 8
 status_of GaveUp = 3
 
 -- the text reports a right merge of the problem
-pub record ReportsMerge (distance : DistanceName) (aggregator : AggregatorName) (problem : Problem) (text : List ℕ) : Type 0 where
+pub record ReportsMerge (distance : DistanceName) (aggregator : AggregatorName) (conflicts : ℕ) (problem : Problem) (text : List ℕ) : Type 0 where
   pub answer : Answer
   pub right : IsRight (dist_named distance problem.atoms) (rank_named aggregator) problem answer
-  pub says : text ≡ answer_report distance aggregator problem answer
+  pub says : text ≡ report_text distance aggregator conflicts problem answer
 
 -- the text reports which formulas of the problem have a model and which have none
-pub record ReportsLack (distance : DistanceName) (aggregator : AggregatorName) (problem : Problem) (text : List ℕ) : Type 0 where
+pub record ReportsLack (distance : DistanceName) (aggregator : AggregatorName) (conflicts : ℕ) (problem : Problem) (text : List ℕ) : Type 0 where
   pub answer : Answer
   pub named : IsNamed problem answer
-  pub says : text ≡ answer_report distance aggregator problem answer
+  pub says : text ≡ report_text distance aggregator conflicts problem answer
 
 -- the answers to a problem
-pub data MergeAnswers (distance : DistanceName) (aggregator : AggregatorName) (problem : Problem) (status : ℕ) (text : List ℕ) : Type 0 where
+pub data MergeAnswers (distance : DistanceName) (aggregator : AggregatorName) (conflicts : ℕ) (problem : Problem) (status : ℕ) (text : List ℕ) : Type 0 where
   not_built : built_limit < length problem.atoms
       → status ≡ 9 → text ≡ codes "refused: not built\n"
-      → MergeAnswers distance aggregator problem status text
+      → MergeAnswers distance aggregator conflicts problem status text
   merged : length problem.atoms ≤ built_limit
-      → status ≡ 0 → ReportsMerge distance aggregator problem text
-      → MergeAnswers distance aggregator problem status text
+      → status ≡ 0 → ReportsMerge distance aggregator conflicts problem text
+      → MergeAnswers distance aggregator conflicts problem status text
   inconsistent : length problem.atoms ≤ built_limit
-      → status ≡ 8 → ReportsLack distance aggregator problem text
-      → MergeAnswers distance aggregator problem status text
+      → status ≡ 8 → ReportsLack distance aggregator conflicts problem text
+      → MergeAnswers distance aggregator conflicts problem status text

@@ -20,7 +20,7 @@ pub fn text_reply(alloc: Global, command: Command, bytes: &[u8]) -> Result<Reply
     ensures { IfOk result (λ reply. TextAnswers command bytes.now reply.status reply.text.items) }
 {
     match command {
-        Command::Merge(_, _) => problem_text_reply(alloc, command, bytes),
+        Command::Merge(..) => problem_text_reply(alloc, command, bytes),
     }
 }
 
@@ -42,16 +42,16 @@ fn problem_reply(alloc: Global, command: Command, problem: &Problem) -> Result<R
     ensures { IfOk result (λ reply. ProblemAnswers command problem.now
         reply.status reply.text.items) }
 {
-    let (distance, aggregator) = operators_of(command);
-    merge_reply(alloc, distance, aggregator, problem)
+    let (distance, aggregator, conflicts) = merge_of(command);
+    merge_reply(alloc, distance, aggregator, conflicts, problem)
 }
 
-// The distance and the aggregator by which a command merges.
-fn operators_of(command: Command) -> (DistanceName, AggregatorName)
-    ensures { command ≡ Command.Merge result.0 result.1 }
+// The distance and the aggregator by which a command merges, and its number of conflicts.
+fn merge_of(command: Command) -> (DistanceName, AggregatorName, u64)
+    ensures { command ≡ Command.Merge result.0 result.1 result.2 }
 {
     match command {
-        Command::Merge(distance, aggregator) => (distance, aggregator),
+        Command::Merge(distance, aggregator, conflicts) => (distance, aggregator, conflicts),
     }
 }
 

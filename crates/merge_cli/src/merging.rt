@@ -8,9 +8,6 @@ use edge::NoMemory;
 use merge_model::{AggregatorName, Answer, DistanceName, Problem, merge_named};
 use std::alloc::Global;
 
-/// The number of conflicts that a report names where no word gives one.
-const USUAL_CONFLICTS: u64 = 100_000;
-
 /// How many atoms a problem that is answered may have.
 const BUILT_LIMIT: u32 = 8;
 
@@ -19,9 +16,10 @@ pub fn merge_reply(
     alloc: Global,
     distance: DistanceName,
     aggregator: AggregatorName,
+    conflicts: u64,
     problem: &Problem,
 ) -> Result<Reply, NoMemory>
-    ensures { IfOk result (λ reply. MergeAnswers distance aggregator problem.now
+    ensures { IfOk result (λ reply. MergeAnswers distance aggregator conflicts problem.now
         reply.status reply.text.items) }
 {
     if problem.atoms.len() > BUILT_LIMIT {
@@ -29,14 +27,7 @@ pub fn merge_reply(
     }
     let answer = merge_named(alloc, distance, aggregator, problem)?;
     let mut text = Vec::new(alloc);
-    write_answer(
-        distance,
-        aggregator,
-        USUAL_CONFLICTS,
-        problem,
-        &answer,
-        &mut text,
-    )?;
+    write_answer(distance, aggregator, conflicts, problem, &answer, &mut text)?;
     let status = status_for(&answer);
     Ok(Reply { status, text })
 }

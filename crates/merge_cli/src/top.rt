@@ -51,7 +51,7 @@ fn command_reply<S: Source>(alloc: Global, command: Command, source: &mut S) -> 
     ensures unread { ¬ (Reads command) → source.new ≡ source.old }
 {
     match command {
-        Command::Merge(_, _) => read_reply(alloc, command, source),
+        Command::Merge(..) => read_reply(alloc, command, source),
     }
 }
 
@@ -138,15 +138,16 @@ pub fn run<S: Source, K: Sink>(
         → AsksProblem (S.left source.old) words.now command problem
         → LacksModel (profile_of problem)
         → result.status ≢ 0 }
-    ensures merged { (distance : DistanceName) (aggregator : AggregatorName) (problem : Problem)
-        → AsksProblem (S.left source.old) words.now (Command.Merge distance aggregator) problem
+    ensures merged { (distance : DistanceName) (aggregator : AggregatorName) (conflicts : ℕ)
+        (problem : Problem) → AsksProblem (S.left source.old) words.now
+        (Command.Merge distance aggregator conflicts) problem
         → result.status ≡ 0
-        → ReportsMerge distance aggregator problem result.text.items }
-    ensures inconsistent { (distance : DistanceName) (aggregator : AggregatorName)
-        (problem : Problem)
-        → AsksProblem (S.left source.old) words.now (Command.Merge distance aggregator) problem
+        → ReportsMerge distance aggregator conflicts problem result.text.items }
+    ensures inconsistent { (distance : DistanceName) (aggregator : AggregatorName) (conflicts : ℕ)
+        (problem : Problem) → AsksProblem (S.left source.old) words.now
+        (Command.Merge distance aggregator conflicts) problem
         → result.status ≡ 8
-        → ReportsLack distance aggregator problem result.text.items }
+        → ReportsLack distance aggregator conflicts problem result.text.items }
 
     ensures read_fault { result.status ≡ 4
         → IsReading words.now × Rose (S.faults source.old) (S.faults source.new) }

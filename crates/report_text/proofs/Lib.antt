@@ -7,3 +7,8 @@ pub mod WrittenHead
 pub mod WrittenLog
 pub mod WrittenAnswer
 pub mod WrittenWhole
+pub mod FrontJudged
+pub mod FrontSaid
+pub mod FrontSteps
+pub mod WritingTexts
+pub mod WritingProofs
