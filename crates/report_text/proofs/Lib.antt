@@ -1,3 +1,12 @@
+pub mod WrittenRange
+pub mod WrittenSteps
+pub mod WrittenText
+pub mod WrittenRun
+pub mod WrittenPlaces
+pub mod WrittenHead
+pub mod WrittenLog
+pub mod WrittenAnswer
+pub mod WrittenWhole
 pub mod FrontJudged
 pub mod FrontSaid
 pub mod FrontSteps

@@ -1,3 +1,4 @@
 pub mod Front
 pub mod Judging
+pub mod WrittenLaws
 pub mod WritingItems

@@ -6,5 +6,7 @@ pub mod front;
 /// Why a line does not lead on.
 pub mod stop;
 mod writing;
+mod written;
 
 pub use writing::{write_answer, write_report};
+pub use written::written_is_accepted;
