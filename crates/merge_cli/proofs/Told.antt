@@ -13,6 +13,7 @@ use Rattle.report_lines.specs.declared.kinds.Kind.{Kind}
 use Rattle.report_lines.specs.declared.kinds.RefusedKind.{RefusedKind}
 use Rattle.report_lines.specs.Judged.{IsAccepted, IsFirstWrong}
 use Rattle.report_lines.specs.Parts.{Asked}
+use Rattle.report_lines.specs.Places.{end_number}
 use Rattle.report_lines.proofs.NeverBoth.{never}
 use Rattle.report_lines.proofs.Once.{once}
 use Rattle.merge_cli.specs.declared.commands.Command.{Command}
@@ -25,6 +26,7 @@ use Rattle.merge_cli.specs.Rows.{ReadAnswers, too_long, of_text, refused, of_pro
 use Rattle.merge_cli.specs.Answers.{ProblemAnswers, TextAnswers, Answers, Answered, IsTooMuch, AsksText, AsksProblem, AsksCheck}
 use Rattle.merge_cli.proofs.Laws.{reads_text, reading_row, text_row, lacks, lacks_none, not_refused, refused_comes, refused_only, too_long_comes, too_long_only, names_a_line, row_of}
 use Rattle.merge_cli.proofs.OneKind.{one_kind, same_kind}
+use Rattle.merge_cli.proofs.Reported.{row_accepted, is_reported}
 use Rattle.merge_cli.proofs.SameProblems.{equal_problems, equal_refusals}
 
 exceeds_more : (limit : Option ℕ) (m n : ℕ) → m ≤ n → Exceeds limit m → Exceeds limit n
@@ -200,6 +202,11 @@ module _ (words : List (List ℕ)) (before now : Option (List ℕ)) (room_before
   reported_run asked of other =
       problem_of_row (merge_of asked) now answered.read status text tt
       (reading_row (merge_of asked) now answered.read status text tt (row_of words (merge_of asked) now answered.read status text of answered.answers)) other
+
+  pub accepted_run : (asked : Asked) (k : Kind) → IsCommand words (merge_of asked) → status ≡ end_number k → IsAccepted text k
+  accepted_run asked k of is =
+      let reports = reported_run asked of (is_reported k status is).not_refused in
+      row_accepted asked reports.0 status text k reports.1 is
 
   checked_row : (bytes : List ℕ) → AsksCheck before words bytes → CheckAnswers bytes status text
   checked_row bytes asks =

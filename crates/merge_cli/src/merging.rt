@@ -3,10 +3,11 @@ ghost use Rattle.merge_cli.specs.Commands.{IsBudget};
 ghost use Rattle.merge_cli.specs.Merge.{MergeAnswers, status_of};
 
 use crate::reply::Reply;
-use crate::standin::{report_on, write_report};
+use crate::standin::report_on;
 use crate::status::{ANSWERED, GAVE_UP, LACKS_MODEL};
 use edge::NoMemory;
 use merge_model::{AggregatorName, Answer, DistanceName, Problem};
+use report_text::write_report;
 use std::alloc::Global;
 
 /// What `merge` answers to a problem.

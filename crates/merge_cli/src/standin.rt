@@ -1,10 +1,9 @@
 // Stand-ins with the contracts of crates that are built elsewhere.
-ghost use Rattle.std.specs.Prelude.{◌≡◌, ◌≤◌, length, IfOk, MatchResult};
+ghost use Rattle.std.specs.Prelude.{◌≡◌, ◌≤◌, IfOk, MatchResult};
 ghost use Rattle.report_lines.specs.Places.{conflict_limit};
 ghost use Rattle.report_lines.specs.Judged.{IsAccepted};
-ghost use Rattle.report_lines.specs.Parts.{HasForm, HaveLines, report_text};
+ghost use Rattle.report_lines.specs.Parts.{HasForm};
 ghost use Rattle.report_lines.specs.Reports.{IsReport, asked_in, parts_in};
-ghost use Rattle.report_words.specs.Writing.{Writes};
 ghost use Rattle.merge_cli.specs.StandIn.{IsBorneOut, IsTruthful, StopsReport};
 
 use edge::NoMemory;
@@ -47,15 +46,6 @@ pub fn report_on(
     ensures form { IfOk result (λ report. HasForm (asked_in report) (parts_in report)) }
     ensures borne_out { IfOk result IsBorneOut }
     ensures truth { IfOk result IsTruthful }
-{
-    Err(NoMemory)
-}
-
-pub fn write_report(report: &Report, into: &mut Vec<u8>) -> Result<(), NoMemory>
-    requires whole { IsReport report.now }
-    requires lines { HaveLines (length report.now.derivations.main) report.now.derivations.steps }
-    ensures { Writes result into.old.items into.new.items
-        (report_text (asked_in report.now) (parts_in report.now)) }
 {
     Err(NoMemory)
 }

@@ -23,6 +23,7 @@ ghost use Rattle.report_lines.specs.declared.kinds.Kind.{Kind};
 ghost use Rattle.report_lines.specs.declared.kinds.RefusedKind.{RefusedKind};
 ghost use Rattle.report_lines.specs.Judged.{IsAccepted, IsFirstWrong};
 ghost use Rattle.report_lines.specs.Parts.{Asked};
+ghost use Rattle.report_lines.specs.Places.{end_number};
 
 use crate::commands::{Command, command_of};
 use crate::reading::read_reply;
@@ -167,6 +168,10 @@ pub fn run<S: Source, K: Sink>(
     ensures reported { (asked : Asked) → IsCommand words.now (merge_of asked)
         → result.status ≢ 1 → result.status ≢ 4 → result.status ≢ 5 → result.status ≢ 6
         → (problem : Problem) × MergeAnswers asked problem result.status result.text.items }
+
+    // What `merge` reports is accepted, of the kind that its status tells.
+    ensures accepted { (asked : Asked) (kind : Kind) → IsCommand words.now (merge_of asked)
+        → result.status ≡ end_number kind → IsAccepted result.text.items kind }
 
     // What `check` answers to the bytes of a source that tells them.
     ensures checked { (bytes : List ℕ) → AsksCheck (S.left source.old) words.now bytes
