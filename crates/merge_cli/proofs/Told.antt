@@ -208,8 +208,8 @@ module _ (words : List (List ℕ)) (before now : Option (List ℕ)) (room_before
       let reports = reported_run asked of (is_reported k status is).not_refused in
       row_accepted asked reports.0 status text k reports.1 is
 
-  checked_row : (bytes : List ℕ) → AsksCheck before words bytes → CheckAnswers bytes status text
-  checked_row bytes asks =
+  pub told_check_run : (bytes : List ℕ) → AsksCheck before words bytes → CheckAnswers bytes status text
+  told_check_run bytes asks =
       let P : Option (List ℕ) → Type 0 = λ left. Consumes left now answered.read in
       elim (row_of_all (limit_of Check) (TextAnswers Check) bytes now answered.read status text (subst P asks.0 answered.gave.known)
       (reading_row Check now answered.read status text tt (row_of words Check now answered.read status text asks.1 answered.answers))) [
@@ -219,17 +219,17 @@ module _ (words : List (List ℕ)) (before now : Option (List ℕ)) (room_before
 
   pub checked_run : (bytes : List ℕ) → AsksCheck before words bytes → (k : Kind) → ((status ≡ 0) × (text ≡ accepted_text k)) ↔ IsAccepted bytes k
   checked_run bytes asks k = (
-    (λ said. accepted_only_row bytes status text k (checked_row bytes asks) said.0 said.1),
-    accepted_row bytes status text k (checked_row bytes asks),
+    (λ said. accepted_only_row bytes status text k (told_check_run bytes asks) said.0 said.1),
+    accepted_row bytes status text k (told_check_run bytes asks),
   )
 
   pub refused_report_only_run : (bytes : List ℕ) → AsksCheck before words bytes → status ≡ 7
       → (line : ℕ) × (k : RefusedKind) × IsFirstWrong bytes line k × (text ≡ wrong_line_text line k)
-  refused_report_only_run bytes asks seven = elim (checked_row bytes asks) [
+  refused_report_only_run bytes asks seven = elim (told_check_run bytes asks) [
     | accepted l is one said ↦ absurd (omega arith)
     | wrong line l is one said ↦ (line, l, is, said)
   ]
 
   pub refused_report_run : (bytes : List ℕ) → AsksCheck before words bytes → (line : ℕ) (k : RefusedKind) → IsFirstWrong bytes line k
       → (status ≡ 7) × (text ≡ wrong_line_text line k)
-  refused_report_run bytes asks line k first = wrong_row bytes status text line k (checked_row bytes asks) first
+  refused_report_run bytes asks line k first = wrong_row bytes status text line k (told_check_run bytes asks) first

@@ -8,7 +8,7 @@ ghost use Rattle.merge_cli.specs.Answers.{Answers, Answered, CommandAnswers, Tex
 ghost use Rattle.merge_cli.specs.Answers.{ProblemAnswers, IsReading, IsUnread, IsTooMuch};
 ghost use Rattle.merge_cli.specs.Answers.{AsksText, AsksProblem};
 ghost use Rattle.merge_cli.specs.Answers.{AsksCheck};
-ghost use Rattle.merge_cli.specs.Check.{accepted_text, wrong_line_text};
+ghost use Rattle.merge_cli.specs.Check.{CheckAnswers, accepted_text, wrong_line_text};
 ghost use Rattle.merge_cli.specs.Merge.{MergeAnswers, ReportsMerge, ReportsLack, ReportsSpent};
 ghost use Rattle.merge_cli.specs.Merge.{main_vars};
 ghost use Rattle.merge_cli.specs.Commands.{merge_of};
@@ -174,6 +174,9 @@ pub fn run<S: Source, K: Sink>(
         → result.status ≡ end_number kind → IsAccepted result.text.items kind }
 
     // What `check` answers to the bytes of a source that tells them.
+    ensures told_check { (bytes : List ℕ) → AsksCheck (S.left source.old) words.now bytes
+        → result.status ≢ 4 → result.status ≢ 5 → result.status ≢ 6
+        → CheckAnswers bytes result.status result.text.items }
     ensures checked { (bytes : List ℕ) → AsksCheck (S.left source.old) words.now bytes
         → result.status ≢ 4 → result.status ≢ 5 → result.status ≢ 6 → (kind : Kind)
         → ((result.status ≡ 0) × (result.text.items ≡ accepted_text kind))
