@@ -1,0 +1,10 @@
+pub mod PartsPlaces
+pub mod PartsLog
+pub mod PartsMain
+pub mod PartsShown
+pub mod PartsVerdicts
+pub mod PartsNamed
+pub mod PartsAnswer
+pub mod PartsProblem
+pub mod PartsHead
+pub mod PartsWhole
