@@ -1,8 +1,7 @@
 -- The answer of a report, from its first line on.
-use Rattle.std.proofs.Common.{◌≡◌, ℕ, ◌+◌, ◌<◌, nat_lt, Bool, true, false, ◌||◌, ◌&&◌, ◌⊎◌, inl, inr, List, [], ◌∷◌, ◌++◌, length, map, None, Some, refl, ap, sym, subst, ◌∙◌, append_assoc, arith}
+use Rattle.std.proofs.Common.{◌≡◌, ℕ, nat_lt, Bool, true, false, ◌||◌, inl, inr, List, [], ◌∷◌, ◌++◌, length, None, Some, refl, ap, sym, subst, ◌∙◌, append_assoc}
 use Rattle.std.specs.Prelude.{All}
 use Rattle.std.specs.List.{AllZip, AllByRecursion}
-use Rattle.std.specs.Str.{bytes_eq}
 use Rattle.std.proofs.lemmas.List.{length-map}
 use Rattle.std.proofs.lemmas.List.Elements.{All-from_recursion}
 use Rattle.std.proofs.lemmas.Slice.Eq.{bytes_eq-Decides}
@@ -19,18 +18,18 @@ use Rattle.report_lines.specs.declared.kinds.Due.TheVariants as due
 use Rattle.report_lines.specs.declared.kinds.Kind.{Kind}
 use Rattle.report_lines.specs.declared.kinds.Kind.TheVariants as kind
 use Rattle.report_lines.specs.declared.kinds.Subject.TheVariants.{TheConstraint}
-use Rattle.report_lines.specs.ClaimsDue.{DueClaim, of_first, lack_of, far_claims, least_claims, verdict_claims, base_claims, claims_due}
+use Rattle.report_lines.specs.ClaimsDue.{DueClaim, of_first, lack_of, far_claims, least_claims, verdict_claims, claims_due}
 use Rattle.report_lines.specs.Accepted.{IsWitness, IsWitnessedVerdict, IsWitnessedMerge, IsWitnessedEntry, IsWitnessedNaming}
 use Rattle.report_lines.specs.Items.{Item, ModelLine, MeasureLine, NoModelLine, HasModelLine, GaveUpLine}
-use Rattle.report_lines.specs.Places.{Position, DueAt, IsModelLine, IsNamedLine, IsAnswerLine}
-use Rattle.report_lines.specs.Holding.{holds, breaks}
+use Rattle.report_lines.specs.Places.{Position, DueAt, IsModelLine, IsAnswerLine}
+use Rattle.report_lines.specs.Holding.{breaks}
 use Rattle.report_lines.specs.Following.{LeadsTo, after}
 use Rattle.report_lines.specs.Judged.{Run}
-use Rattle.report_lines.specs.Parts.{kind_of_answer, answer_items, shown_items, verdict_items}
+use Rattle.report_lines.specs.Parts.{kind_of_answer, answer_items, shown_items}
 use Rattle.report_text.proofs.PartsPlaces.{Next, next}
 use Rattle.report_text.proofs.PartsMain.{Tail, main_rest}
 use Rattle.report_text.proofs.PartsShown.{Setting, profile_in, op_in, main_in, values_of, rank_in, ShownFits, shown_with, Block, shown_rest}
-use Rattle.report_text.proofs.PartsVerdicts.{judging, due_from, VerdictFits, VerdictRest, verdicts_rest}
+use Rattle.report_text.proofs.PartsVerdicts.{judging, VerdictFits, VerdictRest, verdicts_rest}
 use Rattle.report_text.proofs.PartsNamed.{naming, due_named, is_open, EntryFits, NamedRest, named_rest, none_there}
 
 -- the place before an answer

@@ -1,6 +1,5 @@
 -- The head of a report and the first lines of its problem.
-use Rattle.std.proofs.Common.{◌≡◌, ℕ, ◌≤◌, List, [], ◌∷◌, ◌++◌, length, codes, refl, ap, sym, subst, ◌∙◌, arith}
-use Rattle.formulas.specs.declared.formula.Formula.{Formula}
+use Rattle.std.proofs.Common.{◌≡◌, ◌≤◌, List, [], ◌∷◌, ◌++◌, length, codes, refl, ap, sym, subst, ◌∙◌, arith}
 use Rattle.problem_reading.specs.declared.said.Said.{Said}
 use Rattle.problem_reading.specs.declared.said.Said.TheVariants.{Names, Condition}
 use Rattle.problem_reading.specs.Canonical.{IsWritten}
@@ -8,7 +7,7 @@ use Rattle.problem_reading.specs.Drafts.{Draft, empty_draft}
 use Rattle.problem_reading.specs.Faults.{line_form}
 use Rattle.problem_reading.specs.Saying as saying
 use Rattle.problem_reading.specs.Spelling.{no_lines}
-use Rattle.problem_laws.specs.CanonicalOrder.{after_nothing, after_atoms, in_agents, no_line, atoms_come, constraint_comes}
+use Rattle.problem_laws.specs.CanonicalOrder.{after_atoms, in_agents, no_line, atoms_come, constraint_comes}
 use Rattle.report_lines.specs.declared.kinds.Due.TheVariants as due
 use Rattle.report_lines.specs.Items.{Item, HeadLine, DistanceLine, AggregatorLine, ConflictsLine, ProblemLine}
 use Rattle.report_lines.specs.Places.{Position, DueAt, start, conflict_limit}

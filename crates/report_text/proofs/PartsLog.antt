@@ -1,5 +1,5 @@
 -- The log of a report, the proofs of its claims, and its end.
-use Rattle.std.proofs.Common.{◌≡◌, ℕ, zero, suc, ◌+◌, ◌<◌, ◌≤◌, ◌==◌, nat_lt, nat_le, Bool, true, false, not, ◌&&◌, ◌||◌, List, [], ◌∷◌, ◌++◌, length, map, drop, Option, None, Some, ◌⊎◌, inl, inr, unwrap_or, refl, ap, sym, subst, ◌∙◌, append_assoc, append-nil, length-append, arith}
+use Rattle.std.proofs.Common.{◌≡◌, ℕ, zero, suc, ◌+◌, ◌<◌, ◌≤◌, ◌==◌, nat_lt, nat_le, Bool, true, false, not, ◌&&◌, ◌||◌, List, [], ◌∷◌, ◌++◌, length, map, drop, Option, None, Some, ◌⊎◌, inl, inr, refl, ap, sym, subst, ◌∙◌, append_assoc, append-nil, length-append, arith}
 use Rattle.std.specs.Prelude.{◌^◌, slice_get, is_none}
 use Rattle.std.specs.List.{AllZip, AllByRecursion, list_all}
 use Rattle.std.proofs.lemmas.Bool.Decides.{nat_tests}
@@ -12,9 +12,8 @@ use Rattle.clause_store.proofs.Truths.{and_left, and_right}
 use Rattle.report_words.specs.declared.numbers.WideLit.{WideLit}
 use Rattle.report_words.specs.Numbers.{HasNumeral, IsLiteral}
 use Rattle.derivation_log.specs.declared.wide.WideLink.{WideLink}
-use Rattle.derivation_log.specs.declared.step.Link.{Link}
 use Rattle.derivation_log.specs.declared.step.Step.{Step}
-use Rattle.derivation_log.specs.Logs.{Follows, IsSound, is_learned}
+use Rattle.derivation_log.specs.Logs.{Follows, IsSound}
 use Rattle.derivation_log.specs.StepLines.{StepLine, IsStep, IsLink, HasLine, step_line, widen, widen_link, any_big, any_big_pivot, is_big, has_big, rises}
 use Rattle.log_checker.specs.Verdicts.{verdict_of}
 use Rattle.log_lines.specs.Spending.{Noted, is_spent}
@@ -29,11 +28,11 @@ use Rattle.report_lines.specs.declared.kinds.Kind.TheVariants as kind
 use Rattle.report_lines.specs.ClaimsDue.{DueClaim}
 use Rattle.report_lines.specs.Items.{Item, LogLine, ShownLine, EndLine}
 use Rattle.report_lines.specs.Places.{Position, DueAt, IsProofLine, end_number, main_at}
-use Rattle.report_lines.specs.Holding.{stored_main, known_at, refutes, proves, is_end}
+use Rattle.report_lines.specs.Holding.{stored_main, known_at, refutes, is_end}
 use Rattle.report_lines.specs.Following.{LeadsTo, after, noted}
 use Rattle.report_lines.specs.Judged.{Run}
 use Rattle.report_lines.specs.Parts.{step_items, shown_claims, HaveLines, noted_step}
-use Rattle.report_text.proofs.PartsPlaces.{Next, next, over_stops}
+use Rattle.report_text.proofs.PartsPlaces.{over_stops}
 
 both_items : (x y : Item) (xs ys : List Item) → x ≡ y → xs ≡ ys → x ∷ xs ≡ y ∷ ys
 both_items x y xs ys e f = cc

@@ -1,5 +1,5 @@
 -- The main line of a report and what follows it.
-use Rattle.std.proofs.Common.{◌≡◌, ℕ, ◌==◌, Bool, true, ◌&&◌, List, [], ◌∷◌, ◌++◌, length, map, refl, ap, sym, subst, ◌∙◌, append-nil, arith}
+use Rattle.std.proofs.Common.{◌≡◌, ℕ, ◌==◌, true, List, [], ◌∷◌, ◌++◌, length, map, refl, ap, sym, subst, ◌∙◌, append-nil, arith}
 use Rattle.std.specs.List.{AllZip, AllByRecursion}
 use Rattle.std.proofs.lemmas.Bool.Decides.{nat_tests}
 use Rattle.clause_store.specs.declared.lit.Lit.{Lit}
@@ -21,7 +21,7 @@ use Rattle.report_lines.specs.Following.{LeadsTo, after}
 use Rattle.report_lines.specs.Judged.{Run}
 use Rattle.report_lines.specs.Parts.{step_items, shown_claims, HaveLines, noted_step}
 use Rattle.report_text.proofs.PartsPlaces.{Next, next}
-use Rattle.report_text.proofs.PartsLog.{stored, known, ShowsIn, SpendsAll, Proved, Logged, LoggedAt, log_rest}
+use Rattle.report_text.proofs.PartsLog.{stored, ShowsIn, SpendsAll, Proved, Logged, LoggedAt, log_rest}
 
 -- what follows an answer: the main line, steps that follow, the proofs of these claims and the end; `last` is the kind there
 pub record Tail (last : Kind) (main : MainDue) (conflicts : ℕ) (k : Kind) (claims : List DueClaim) (xs : List Item) : Type 0 where

@@ -1,5 +1,5 @@
 -- The answer that names which formulas have no model.
-use Rattle.std.proofs.Common.{◌≡◌, ℕ, zero, suc, ◌+◌, ◌<◌, ◌≤◌, nat_lt, Bool, true, false, ◌||◌, ◌&&◌, ◌⊎◌, inl, inr, List, [], ◌∷◌, ◌++◌, length, map, drop, Option, None, Some, refl, ap, sym, subst, ◌∙◌, append_assoc, append-nil, length-append, arith}
+use Rattle.std.proofs.Common.{◌≡◌, ℕ, suc, ◌+◌, ◌<◌, nat_lt, Bool, true, false, ◌||◌, inl, inr, List, [], ◌∷◌, ◌++◌, length, drop, Option, None, Some, refl, ap, sym, subst, ◌∙◌, append_assoc, append-nil, length-append, arith}
 use Rattle.std.specs.Prelude.{Contains, MatchOption, if◌then◌else◌}
 use Rattle.std.specs.List.{AllZip, AllByRecursion}
 use Rattle.std.proofs.lemmas.Bool.Decides.{nat_tests}
@@ -14,16 +14,14 @@ use Rattle.report_lines.specs.declared.kinds.Due.{Due}
 use Rattle.report_lines.specs.declared.kinds.Due.TheVariants as due
 use Rattle.report_lines.specs.declared.kinds.Kind.{Kind}
 use Rattle.report_lines.specs.declared.kinds.Kind.TheVariants as kind
-use Rattle.report_lines.specs.declared.kinds.Subject.{Subject}
-use Rattle.report_lines.specs.declared.kinds.Subject.TheVariants.{TheConstraint, BaseOf}
-use Rattle.report_lines.specs.ClaimsDue.{DueClaim, of_first, lack_of, unless_some, base_claims}
-use Rattle.report_lines.specs.Accepted.{IsWitnessedEntry, IsWitnessedNaming}
+use Rattle.report_lines.specs.declared.kinds.Subject.TheVariants.{BaseOf}
+use Rattle.report_lines.specs.ClaimsDue.{DueClaim, of_first, lack_of, base_claims}
+use Rattle.report_lines.specs.Accepted.{IsWitnessedEntry}
 use Rattle.report_lines.specs.Items.{Item, NoModelLine, HasModelLine}
-use Rattle.report_lines.specs.Places.{Position, DueAt, IsNamedLine}
-use Rattle.report_lines.specs.Holding.{holds, may_name, formula_at}
+use Rattle.report_lines.specs.Places.{Position, IsNamedLine}
 use Rattle.report_lines.specs.Following.{LeadsTo, after}
 use Rattle.report_lines.specs.Judged.{Run}
-use Rattle.report_lines.specs.Parts.{named_item, base_items}
+use Rattle.report_lines.specs.Parts.{base_items}
 use Rattle.report_text.proofs.PartsPlaces.{Next, next}
 use Rattle.report_text.proofs.PartsMain.{Tail, main_rest}
 use Rattle.report_text.proofs.PartsShown.{Setting, profile_in, main_in}

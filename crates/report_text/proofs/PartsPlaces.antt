@@ -1,5 +1,5 @@
 -- The first item of a run, and what stands after it.
-use Rattle.std.proofs.Common.{◌≡◌, ℕ, Bool, true, false, List, [], ◌∷◌, refl, ap, sym, subst, ◌∙◌}
+use Rattle.std.proofs.Common.{◌≡◌, Bool, true, false, List, [], ◌∷◌, refl, ap, sym, subst, ◌∙◌}
 use Rattle.report_lines.specs.declared.kinds.Due.{Due}
 use Rattle.report_lines.specs.declared.kinds.Due.TheVariants as due
 use Rattle.report_lines.specs.Items.{Item}

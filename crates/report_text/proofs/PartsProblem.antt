@@ -1,5 +1,5 @@
 -- The lines of the problem in a report.
-use Rattle.std.proofs.Common.{◌≡◌, ℕ, zero, suc, ◌+◌, ◌≤◌, Bool, true, false, ◌⊎◌, inl, inr, List, [], ◌∷◌, ◌++◌, length, map, take, codes, Option, Some, not, refl, ap, sym, subst, ◌∙◌, append_assoc, append-nil, length-append, arith}
+use Rattle.std.proofs.Common.{◌≡◌, ℕ, zero, suc, ◌≤◌, true, inl, inr, List, [], ◌∷◌, ◌++◌, length, map, take, codes, not, refl, ap, sym, subst, ◌∙◌, append_assoc, append-nil, length-append, arith}
 use Rattle.std.specs.Prelude.{nat_eq}
 use Rattle.std.specs.List.{starts_with, prefix_len}
 use Rattle.std.proofs.lemmas.Slice.Eq.{bytes_eq-Decides}
@@ -9,20 +9,18 @@ use Rattle.merge_model.specs.declared.agent.Agent.{Agent}
 use Rattle.problem_reading.specs.declared.said.Said.{Said}
 use Rattle.problem_reading.specs.declared.said.Said.TheVariants.{Nothing, Names, Condition, Belief, Query}
 use Rattle.problem_reading.specs.Canonical.{IsWritten}
-use Rattle.problem_reading.specs.Drafts.{Draft, empty_draft}
-use Rattle.problem_reading.specs.Faults.{line_form}
+use Rattle.problem_reading.specs.Drafts.{Draft}
 use Rattle.problem_reading.specs.Saying as saying
-use Rattle.problem_reading.specs.Spelling.{Declares, no_lines, one_more}
-use Rattle.problem_laws.specs.CanonicalOrder.{Place, after_nothing, after_atoms, in_agents, in_asks, ComesNext, InOrder, no_line, atoms_come, constraint_comes, agent_comes, first_ask, ask_comes}
+use Rattle.problem_reading.specs.Spelling.{Declares, one_more}
+use Rattle.problem_laws.specs.CanonicalOrder.{Place, in_agents, in_asks, ComesNext, InOrder, agent_comes, first_ask, ask_comes}
 use Rattle.report_lines.specs.declared.kinds.Due.{Due}
 use Rattle.report_lines.specs.declared.kinds.Due.TheVariants as due
 use Rattle.report_lines.specs.declared.kinds.Kind.{Kind}
 use Rattle.report_lines.specs.Items.{Item, ProblemLine}
-use Rattle.report_lines.specs.Places.{Position, DueAt, IsProblemLine, IsAnswerLine, first_word}
-use Rattle.report_lines.specs.Following.{LeadsTo, IsCanonical, after_said}
+use Rattle.report_lines.specs.Places.{Position, DueAt, IsProblemLine, first_word}
+use Rattle.report_lines.specs.Following.{LeadsTo, after_said}
 use Rattle.report_lines.specs.Judged.{Run}
 use Rattle.report_lines.specs.Parts.{Asked}
-use Rattle.report_text.proofs.PartsPlaces.{Next, next}
 use Rattle.report_text.proofs.PartsShown.{Setting}
 use Rattle.report_text.proofs.PartsAnswer.{fresh, Answered, answer_rest}
 

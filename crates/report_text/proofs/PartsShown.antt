@@ -1,5 +1,5 @@
 -- A valuation that an answer shows: its model line, its vector and the nearest models.
-use Rattle.std.proofs.Common.{◌≡◌, ℕ, zero, suc, ◌+◌, ◌≤◌, ◌==◌, nat_le, Bool, true, false, cond, not, ◌&&◌, ◌||◌, List, [], ◌∷◌, ◌++◌, length, map, unwrap_or, refl, ap, sym, subst, ◌∙◌, arith}
+use Rattle.std.proofs.Common.{◌≡◌, ℕ, ◌≤◌, ◌==◌, nat_le, Bool, true, ◌&&◌, List, [], ◌∷◌, ◌++◌, length, map, unwrap_or, refl, ap, sym, subst, ◌∙◌, arith}
 use Rattle.std.specs.Prelude.{All, if◌then◌else◌}
 use Rattle.std.specs.List.{AllZip, AllByRecursion, list_all}
 use Rattle.std.proofs.lemmas.Bool.Decides.{nat_tests}
@@ -19,15 +19,13 @@ use Rattle.merge_encoding.specs.MainDues.{MainDue}
 use Rattle.merge_encoding.specs.Named.{main_named}
 use Rattle.problem_reading.specs.Drafts.{Draft}
 use Rattle.report_words.specs.Numbers.{HasNumeral}
-use Rattle.report_lines.specs.declared.kinds.Due.{Due}
 use Rattle.report_lines.specs.declared.kinds.Due.TheVariants as due
-use Rattle.report_lines.specs.declared.kinds.Kind.TheVariants as kind
-use Rattle.report_lines.specs.ClaimsDue.{DueClaim, far_claims}
+use Rattle.report_lines.specs.ClaimsDue.{far_claims}
 use Rattle.report_lines.specs.Accepted.{Operator, IsWitness, values_in}
 use Rattle.report_lines.specs.Operators.{operator_named}
 use Rattle.report_lines.specs.Items.{Item, ModelLine, VectorLine, NearestLine}
-use Rattle.report_lines.specs.Places.{Position, DueAt, IsOver, IsModelLine, atoms_at, agents_at, profile_at, top_at}
-use Rattle.report_lines.specs.Holding.{holds, are_near, breaks, is_as_good}
+use Rattle.report_lines.specs.Places.{Position, DueAt, IsOver, atoms_at, agents_at, profile_at, top_at}
+use Rattle.report_lines.specs.Holding.{are_near, is_as_good}
 use Rattle.report_lines.specs.Following.{LeadsTo, after, due_after_verdicts}
 use Rattle.report_lines.specs.Judged.{Run}
 use Rattle.report_text.proofs.PartsPlaces.{Next, next}
@@ -136,6 +134,8 @@ shown_rest p q first w xs e size model r over =
     let ws : List (List Bool) = dn.0 in
     let ln : LeadsTo p2 (NearestLine ws) n.place = subst (λ (y : Item). LeadsTo p2 y n.place) dn.1 n.leads in
     let r3 : Run (after p2 (NearestLine ws)) n.rest q = subst (λ (m : Position). Run m n.rest q) ln.1 n.run in
+    let first : xs ≡ VectorLine ds ∷ v.rest = v.whole ∙ ap (λ (y : Item). y ∷ v.rest) dv.1 in
+    let second : v.rest ≡ NearestLine ws ∷ n.rest = n.whole ∙ ap (λ (y : Item). y ∷ n.rest) dn.1 in
     let bases : length (profile_at p).bases ≡ agents_at p = length-map p.draft.agents (λ (a : Agent). a.base) in
     let near = near_are (atoms_at p) (dist_named p.distance p.draft.atoms) w (profile_at p).bases ds ws (dv.2 ∙ sym bases) (dn.2 ∙ sym bases) dn.3 ln.0 in
     let within : list_all (λ d. nat_le d (top_at p)) ds ≡ true = and_left (list_all (λ d. nat_le d (top_at p)) ds) (is_as_good p ds) lv.0 in
@@ -143,7 +143,7 @@ shown_rest p q first w xs e size model r over =
       vector = ds;
       nearest = ws;
       rest = n.rest;
-      items = v.whole ∙ (ap (λ (y : Item). y ∷ v.rest) dv.1 ∙ ap (λ (ys : List Item). VectorLine ds ∷ ys) (n.whole ∙ ap (λ (y : Item). y ∷ n.rest) dn.1));
+      items = first ∙ ap (λ (ys : List Item). VectorLine ds ∷ ys) second;
       fits = record { model = size; entries = dv.2; numbers = All-from_recursion HasNumeral ds dv.3; nearest = dn.2; over = All-from_recursion (IsOver p) ws dn.3 };
       witness = record {
         model = record { size = size; true_there = model };

@@ -1,10 +1,9 @@
 -- The verdicts of an answer that merges, and the whole of such an answer.
-use Rattle.std.proofs.Common.{◌≡◌, ℕ, suc, ◌+◌, ◌-◌, ◌<◌, ◌≤◌, ◌==◌, nat_lt, Bool, true, false, not, ◌||◌, List, [], ◌∷◌, ◌++◌, length, drop, get_or, refl, ap, sym, subst, ◌∙◌, append_assoc, append-nil, length-drop, drop-cons, add-one, arith}
-use Rattle.std.specs.Prelude.{All, if◌then◌else◌}
+use Rattle.std.proofs.Common.{◌≡◌, ℕ, suc, ◌+◌, ◌-◌, ◌<◌, ◌==◌, nat_lt, Bool, true, false, not, ◌||◌, List, [], ◌∷◌, ◌++◌, length, drop, get_or, refl, ap, sym, subst, ◌∙◌, append_assoc, append-nil, length-drop, drop-cons, add-one, arith}
+use Rattle.std.specs.Prelude.{if◌then◌else◌}
 use Rattle.std.specs.List.{AllZip, AllByRecursion}
 use Rattle.std.specs.Str.{bytes_eq}
 use Rattle.std.proofs.lemmas.Bool.Decides.{nat_tests}
-use Rattle.std.proofs.lemmas.List.Elements.{All-from_recursion}
 use Rattle.std.proofs.lemmas.Slice.Eq.{bytes_eq-Decides}
 use Rattle.clause_store.proofs.Truths.{and_left, and_right}
 use Rattle.formulas.specs.declared.formula.Formula.{Formula}
@@ -14,16 +13,15 @@ use Rattle.merge_model.specs.declared.answer.Shown.{Shown}
 use Rattle.merge_model.specs.declared.answer.Verdict.{Verdict}
 use Rattle.merge_model.specs.declared.answer.Verdict.TheVariants.{Yes, No}
 use Rattle.merge_encoding.specs.Claims.{NoBreaker, ask_at}
-use Rattle.report_words.specs.Numbers.{HasNumeral}
 use Rattle.report_lines.specs.declared.kinds.Due.{Due}
 use Rattle.report_lines.specs.declared.kinds.Due.TheVariants as due
 use Rattle.report_lines.specs.declared.kinds.Kind.{Kind}
 use Rattle.report_lines.specs.declared.kinds.Kind.TheVariants as kind
-use Rattle.report_lines.specs.ClaimsDue.{DueClaim, of_first, far_claims, least_claims, verdict_claims}
-use Rattle.report_lines.specs.Accepted.{IsWitness, IsWitnessedVerdict, IsWitnessedMerge}
-use Rattle.report_lines.specs.Items.{Item, ModelLine, VectorLine, NearestLine, MeasureLine, VerdictLine}
-use Rattle.report_lines.specs.Places.{Position, DueAt, measure_at, rank_at}
-use Rattle.report_lines.specs.Holding.{holds, breaks, is_as_good}
+use Rattle.report_lines.specs.ClaimsDue.{DueClaim, of_first, far_claims, verdict_claims}
+use Rattle.report_lines.specs.Accepted.{IsWitness, IsWitnessedVerdict}
+use Rattle.report_lines.specs.Items.{Item, ModelLine, VerdictLine}
+use Rattle.report_lines.specs.Places.{Position, DueAt}
+use Rattle.report_lines.specs.Holding.{breaks}
 use Rattle.report_lines.specs.Following.{LeadsTo, after}
 use Rattle.report_lines.specs.Judged.{Run}
 use Rattle.report_lines.specs.Parts.{shown_items, verdict_items}

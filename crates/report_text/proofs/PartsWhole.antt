@@ -1,7 +1,6 @@
 -- An accepted text has the parts of a report.
-use Rattle.std.proofs.Common.{◌≡◌, ◌≢◌, arith, ℕ, ◌≤◌, List, [], ◌∷◌, ◌++◌, length, map, codes, ◌⊎◌, unwrap_or, refl, ap, sym, subst, ◌∙◌, append_assoc}
-use Rattle.std.specs.Prelude.{All}
-use Rattle.std.specs.List.{AllZip, AllByRecursion, join_with_byte}
+use Rattle.std.proofs.Common.{◌≡◌, ◌≢◌, arith, ℕ, ◌≤◌, List, [], ◌∷◌, ◌++◌, length, map, ◌⊎◌, unwrap_or, refl, ap, sym, subst, ◌∙◌, append_assoc}
+use Rattle.std.specs.List.{AllByRecursion, join_with_byte}
 use Rattle.std.proofs.lemmas.List.Elements.{All-from_recursion}
 use Rattle.std.proofs.lemmas.List.Splits.{join_with_byte-slice_split}
 use Rattle.std.proofs.lemmas.Slice.Zip.{AllZip-long}
@@ -31,22 +30,20 @@ use Rattle.problem_laws.proofs.Kept.{keeps_so_far, keeps_limits}
 use Rattle.problem_laws.proofs.Ordered.{in_order}
 use Rattle.report_words.specs.Numbers.{HasNumeral}
 use Rattle.report_lines.specs.declared.kinds.Kind.{Kind}
-use Rattle.report_lines.specs.declared.kinds.Kind.TheVariants as kind
-use Rattle.report_lines.specs.ClaimsDue.{DueClaim, claims_due}
+use Rattle.report_lines.specs.ClaimsDue.{claims_due}
 use Rattle.report_lines.specs.Accepted.{Operator, Parts, AreAccepted, Shows, main_of, log_of, values_in}
 use Rattle.report_lines.specs.Operators.{operator_named}
 use Rattle.report_lines.specs.Items.{Item, ProblemLine, item_line}
 use Rattle.report_lines.specs.Judged.{IsAccepted, EndsBy, pieces_of}
 use Rattle.report_lines.specs.Places.{conflict_limit}
-use Rattle.report_lines.specs.Parts.{Asked, operator_of, claims_of, kind_of_answer, answer_items, head_items, log_items, items_of, report_text, HasShownForm, HasVerdictForm, HasEntryForm, HasAnswerForm, HasForm, HasParts, AreSpent}
+use Rattle.report_lines.specs.Parts.{Asked, operator_of, claims_of, kind_of_answer, answer_items, head_items, log_items, items_of, HasShownForm, HasVerdictForm, HasEntryForm, HasAnswerForm, HasForm, HasParts}
 use Rattle.report_lines.proofs.ItemsLaw.{items_are}
-use Rattle.report_text.specs.PartsLaws.{IsBornByParts, BearsOut, IsBorneOut}
+use Rattle.report_text.specs.PartsLaws.{BearsOut, IsBorneOut}
 use Rattle.report_text.proofs.PartsMain.{Tail}
-use Rattle.report_text.proofs.PartsShown.{ShownFits, main_in, values_of}
+use Rattle.report_text.proofs.PartsShown.{ShownFits, values_of}
 use Rattle.report_text.proofs.PartsVerdicts.{VerdictFits}
-use Rattle.report_text.proofs.PartsNamed.{EntryFits}
 use Rattle.report_text.proofs.PartsAnswer.{AnswerFits, WitnessedBy, Answered}
-use Rattle.report_text.proofs.PartsProblem.{Line, setting, State, ProblemRest}
+use Rattle.report_text.proofs.PartsProblem.{Line, setting, ProblemRest}
 use Rattle.report_text.proofs.PartsHead.{HeadRest, head_rest, problem_rest}
 
 -- the text of lines

@@ -5,4 +5,4 @@ mod parts;
 /// Why a line does not lead on.
 pub mod stop;
 
-pub use parts::accepted_has_parts;
+pub use parts::{accepted_has_parts, one_parts};

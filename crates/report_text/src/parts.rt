@@ -1,5 +1,5 @@
 // The parts of an accepted text.
-ghost use Rattle.report_text.specs.PartsLaws.{PartsLaw};
+ghost use Rattle.report_text.specs.PartsLaws.{OnePartsLaw, PartsLaw};
 
 use merge_model::{AggregatorName, DistanceName};
 use report_lines::accepted_named;
@@ -16,3 +16,8 @@ pub fn accepted_has_parts()
     accepted_named(DistanceName::Hamming, AggregatorName::Max);
     accepted_named(DistanceName::Hamming, AggregatorName::Leximax);
 }
+
+/// A text has the parts of at most one report.
+pub fn one_parts()
+    ensures { OnePartsLaw }
+{}
