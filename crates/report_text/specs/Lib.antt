@@ -1,1 +1,3 @@
+pub mod Answering
 pub mod Judging
+pub mod Taking

@@ -1,5 +1,7 @@
 //! Reports as texts: written from what a search found, and checked line by line by whoever reads them.
 #![tactic(auto)]
 
+/// What the answer of a report says.
+pub mod answering;
 /// Why a line does not lead on.
 pub mod stop;
