@@ -1,3 +1,6 @@
+pub mod AtPlaces
 pub mod Claiming
+pub mod FirstWords
 pub mod Properness
+pub mod Ranking
 pub mod Unions

@@ -7,6 +7,7 @@ ghost use Rattle.report_lines.specs.Holding.{breaks, holds, is_as_good};
 ghost use Rattle.report_lines.specs.Items.{ModelLine, VectorLine, NearestLine, MeasureLine};
 ghost use Rattle.report_lines.specs.Places.{DueAt, IsModelLine, full_at, rank_at, top_at};
 ghost use Rattle.merge_encoding.specs.Named.{values_named};
+ghost use Rattle.ranks.specs.Limits.{distance_limit, entry_limit};
 ghost use Rattle.report_text.specs.Answering.{position_of, due_claim, StandsAtAnswer, FitsAt, IsFirst, IsAfterNo, IsMeasured, IsVectorAt, AreProperAt, IsFit};
 ghost use Rattle.report_text.specs.Judging.{JudgedAs};
 ghost use Rattle.report_text.specs.Taking.{Takes};
@@ -69,12 +70,25 @@ impl Answering {
         Ok(())
     }
 
+    /// The full vector of a vector.
+    fn full_of(&self, vector: &[u32]) -> Result<Vec<u32>, NoMemory>
+        requires { IsVectorAt (position_of self.now) vector.now }
+        ensures full { IfOk result (λ full. full.items ≡ full_at (position_of self.now) vector.now) }
+        ensures some { IfOk result (λ full. 1 ≤ length full.items) }
+        ensures few { IfOk result (λ full. length full.items ≤ entry_limit) }
+        ensures within { IfOk result (λ full. All (λ k. k ≤ top_at (position_of self.now)) full.items) }
+        ensures small { IfOk result (λ full. All (λ k. k ≤ distance_limit) full.items) }
+    {
+        let full = full_vector(self.alloc, vector, self.problem.agents.as_slice())?;
+        Ok(full)
+    }
+
     /// The rank of a vector's full vector.
     fn ranked(&self, vector: &[u32]) -> Result<Vec<u32>, NoMemory>
         requires { IsVectorAt (position_of self.now) vector.now }
         ensures { IfOk result (λ rank. rank.items ≡ rank_at (position_of self.now) vector.now) }
     {
-        let full = full_vector(self.alloc, vector, self.problem.agents.as_slice())?;
+        let full = self.full_of(vector)?;
         rank_of(self.alloc, self.aggregator, &full)
     }
 
@@ -86,7 +100,7 @@ impl Answering {
         ensures values { IfOk result (λ first. first.values.items ≡
             values_named self.now.aggregator (full_at (position_of self.now) vector.now) (top_at (position_of self.now))) }
     {
-        let full = full_vector(self.alloc, vector, self.problem.agents.as_slice())?;
+        let full = self.full_of(vector)?;
         let top = top_of(self.distance, &self.problem);
         Ok(First {
             vector: vector.to_vec(self.alloc)?,
