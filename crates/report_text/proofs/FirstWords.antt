@@ -1,9 +1,8 @@
 -- First words tell the lines of an answer apart.
-use Rattle.std.proofs.Common.{◌≡◌, ◌≢◌, ℕ, ◌<◌, ◌⊎◌, inl, inr, true, false, List, [], ◌∷◌, codes, sym, ap, ◌∙◌, arith}
-use Rattle.std.specs.Prelude.{IsTrue}
+use Rattle.std.proofs.Common.{◌≡◌, ◌≢◌, ℕ, ◌<◌, ◌⊎◌, inl, inr, List, [], ◌∷◌, codes, sym, ap, ◌∙◌, arith}
 use Rattle.report_words.specs.Words.{words_of}
 use Rattle.report_lines.specs.declared.kinds.Subject.TheVariants.{TheConstraint}
-use Rattle.report_lines.specs.Items.{Item, GaveUpLine, item_words}
+use Rattle.report_lines.specs.Items.{GaveUpLine, item_words}
 use Rattle.report_lines.specs.Places.{Position, IsModelLine, IsNamedLine}
 use Rattle.report_text.proofs.Unions.{IsNone}
 

@@ -1,4 +1,3 @@
-pub mod AtPlaces
 pub mod Claiming
 pub mod FirstWords
 pub mod Properness

@@ -125,7 +125,7 @@ impl Answering {
     }
 
     /// Whether the subject has a model.
-    pub fn on_named(&mut self, line: &[u8], subject: Subject) -> Result<(), LineStop>
+    pub(crate) fn on_named(&mut self, line: &[u8], subject: Subject) -> Result<(), LineStop>
         requires subject { IsSubjectAt (position_of self.old) subject }
         requires claims { AreProperAt (position_of self.old) }
         ensures judged { JudgedAs (IsNamedLine (position_of self.old) subject) (position_of self.old) line.now (StandsAtAnswer self.new) result }
@@ -161,7 +161,7 @@ impl Answering {
     }
 
     /// The first line of an answer.
-    pub fn on_answer(&mut self, line: &[u8]) -> Result<(), LineStop>
+    pub(crate) fn on_answer(&mut self, line: &[u8]) -> Result<(), LineStop>
         requires place { IsFirst self.old }
         requires claims { AreProperAt (position_of self.old) }
         ensures judged { JudgedAs (IsAnswerLine (position_of self.old)) (position_of self.old) line.now (StandsAtAnswer self.new) result }

@@ -12,9 +12,9 @@ ghost use Rattle.report_text.specs.Answering.{position_of, due_claim, StandsAtAn
 ghost use Rattle.report_text.specs.Judging.{JudgedAs};
 ghost use Rattle.report_text.specs.Taking.{Takes};
 
-use crate::answering::{Answering, Claimed};
 use crate::answering::claims::{add_claims, far_claims, least_claims};
 use crate::answering::plain::{are_equal, are_near_named, narrowed, rank_of, top_of, values_of};
+use crate::answering::{Answering, Claimed};
 use crate::stop::LineStop;
 use edge::NoMemory;
 use formulas::Valuation;
@@ -52,7 +52,7 @@ impl Answering {
     }
 
     /// A model: the first, or one after a no.
-    pub fn on_model(&mut self, line: &[u8]) -> Result<(), LineStop>
+    pub(crate) fn on_model(&mut self, line: &[u8]) -> Result<(), LineStop>
         requires place { IsFirst self.old ⊎ IsAfterNo self.old }
         requires claims { AreProperAt (position_of self.old) }
         ensures judged { JudgedAs (IsModelLine (position_of self.old)) (position_of self.old) line.now (StandsAtAnswer self.new) result }
@@ -160,7 +160,7 @@ impl Answering {
     }
 
     /// The vector of the last model.
-    pub fn on_vector(&mut self, line: &[u8]) -> Result<(), LineStop>
+    pub(crate) fn on_vector(&mut self, line: &[u8]) -> Result<(), LineStop>
         requires place { FitsAt Due.Vector self.old }
         requires claims { AreProperAt (position_of self.old) }
         ensures judged { JudgedAs (DueAt Due.Vector (position_of self.old)) (position_of self.old) line.now (StandsAtAnswer self.new) result }
@@ -193,7 +193,7 @@ impl Answering {
     }
 
     /// The nearest models of the last model.
-    pub fn on_nearest(&mut self, line: &[u8]) -> Result<(), LineStop>
+    pub(crate) fn on_nearest(&mut self, line: &[u8]) -> Result<(), LineStop>
         requires place { FitsAt Due.Nearest self.old }
         requires claims { AreProperAt (position_of self.old) }
         ensures judged { JudgedAs (DueAt Due.Nearest (position_of self.old)) (position_of self.old) line.now (StandsAtAnswer self.new) result }
@@ -219,7 +219,7 @@ impl Answering {
     }
 
     /// The measure of the first vector.
-    pub fn on_measure(&mut self, line: &[u8]) -> Result<(), LineStop>
+    pub(crate) fn on_measure(&mut self, line: &[u8]) -> Result<(), LineStop>
         requires place { FitsAt Due.Measure self.old }
         requires claims { AreProperAt (position_of self.old) }
         ensures judged { JudgedAs (DueAt Due.Measure (position_of self.old)) (position_of self.old) line.now (StandsAtAnswer self.new) result }

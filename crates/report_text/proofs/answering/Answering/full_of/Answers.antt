@@ -1,4 +1,4 @@
-use Rattle.std.proofs.Common.{◌≡◌, ◌∙◌, ap, List, ℕ, map}
+use Rattle.std.proofs.Common.{◌∙◌, ap, List, map}
 use Rattle.merge_model.specs.declared.agent.Agent.{Agent}
 use Rattle.merge_model.specs.Merging.{repeated}
 use Rattle.report_text.specs.Answering.{position_of}

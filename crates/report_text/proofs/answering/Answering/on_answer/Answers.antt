@@ -1,17 +1,10 @@
-use Rattle.std.proofs.Common.{rules, arith, ◌≡◌, ◌≢◌, ◌⊎◌, ℕ, Bool, true, false, List, [], ◌∷◌, ◌++◌, refl, ap, ◌∙◌, sym, length, map, codes, decimal, inl, inr}
-use Rattle.report_words.specs.Words.{words_of}
-use Rattle.formula_text.specs.ValuationWords.{valuation_word}
-use Rattle.report_lines.specs.declared.kinds.Due.TheVariants as due
+use Rattle.std.proofs.Common.{◌≡◌, ◌⊎◌}
 use Rattle.report_lines.specs.declared.kinds.Subject.TheVariants.{TheConstraint}
-use Rattle.report_lines.specs.Following.{after}
-use Rattle.report_lines.specs.Holding.{holds}
-use Rattle.report_lines.specs.Items.{Item, ModelLine, VectorLine, NearestLine, MeasureLine, VerdictLine, NoModelLine, HasModelLine, GaveUpLine, item_words, subject_words, yes_word}
-use Rattle.report_lines.specs.Judged.{IsRightAs, IsWrongAs, absent, faulty}
-use Rattle.report_lines.specs.Places.{DueAt, IsModelLine, IsNamedLine}
-use Rattle.report_text.specs.Answering.{position_of, StandsAtAnswer}
-use Rattle.report_text.proofs.Claiming.{added_proper, far_proper, lack_proper, least_proper, pushed_proper}
-use Rattle.report_text.proofs.FirstWords.{no_model, no_other, not_gave_up}
-use Rattle.report_text.proofs.Unions.{left, right, taken}
+use Rattle.report_lines.specs.Items.{GaveUpLine}
+use Rattle.report_lines.specs.Places.{IsModelLine, IsNamedLine}
+use Rattle.report_text.specs.Answering.{position_of}
+use Rattle.report_text.proofs.FirstWords.{no_model, no_other}
+use Rattle.report_text.proofs.Unions.{left, right}
 use Rattle.report_text.proofs.answering.Answering.on_answer.Goals as goal
 
 pub returns-then-begins_with-clause-judged : goal.returns-then-begins_with-clause-judged

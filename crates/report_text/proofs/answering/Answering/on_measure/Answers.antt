@@ -1,28 +1,14 @@
-use Rattle.std.specs.List.{AllByRecursion, list_all}
-use Rattle.std.specs.Str.{bytes_eq}
-use Rattle.std.specs.Prelude.{nat_le}
-use Rattle.report_words.specs.Numbers.{HasNumeral}
-use Rattle.merge_model.specs.Answers.{dist_named}
 use Rattle.report_lines.specs.ClaimsDue.{least_claims}
-use Rattle.report_lines.specs.Following.{due_after_verdicts}
-use Rattle.report_lines.specs.Holding.{are_near, is_as_good}
-use Rattle.report_lines.specs.Places.{measure_at, values_at, profile_at, agents_at, atoms_at}
-use Rattle.report_text.proofs.Rows.{due_here, due_with, fits_after_measure, front_false, same_all, same_test, vector_judged}
+use Rattle.report_lines.specs.Places.{measure_at, values_at}
+use Rattle.report_text.proofs.Rows.{due_with, fits_after_measure, same_test}
 use Rattle.std.proofs.lemmas.List.{map-append}
-use Rattle.std.proofs.Common.{rules, arith, ◌≡◌, ◌≢◌, ◌⊎◌, ℕ, Bool, true, false, List, [], ◌∷◌, ◌++◌, refl, ap, ◌∙◌, sym, subst, All, length, map, codes, decimal, inl, inr}
-use Rattle.report_words.specs.Words.{words_of}
-use Rattle.formula_text.specs.ValuationWords.{valuation_word}
-use Rattle.report_lines.specs.declared.kinds.Due.TheVariants as due
-use Rattle.report_lines.specs.declared.kinds.Subject.TheVariants.{TheConstraint}
+use Rattle.std.proofs.Common.{◌≡◌, true, ◌++◌, refl, ap, ◌∙◌, sym, subst, All, length, map}
 use Rattle.report_lines.specs.Following.{after}
 use Rattle.report_lines.specs.Holding.{holds}
-use Rattle.report_lines.specs.Items.{Item, ModelLine, VectorLine, NearestLine, MeasureLine, VerdictLine, NoModelLine, HasModelLine, GaveUpLine, item_words, subject_words, yes_word}
-use Rattle.report_lines.specs.Judged.{IsRightAs, IsWrongAs, absent, faulty}
-use Rattle.report_lines.specs.Places.{Position, DueAt, IsModelLine, IsNamedLine, rank_at, full_at, top_at}
-use Rattle.report_text.specs.Answering.{position_of, due_claim, AreProperAt, IsVectorAt, StandsAtAnswer}
-use Rattle.report_text.proofs.Claiming.{IsProperDue, added_proper, far_proper, lack_proper, least_proper, pushed_proper}
-use Rattle.report_text.proofs.FirstWords.{no_model, no_other, not_gave_up}
-use Rattle.report_text.proofs.Unions.{left, right, taken}
+use Rattle.report_lines.specs.Items.{MeasureLine}
+use Rattle.report_lines.specs.Judged.{faulty}
+use Rattle.report_text.specs.Answering.{position_of, due_claim}
+use Rattle.report_text.proofs.Claiming.{IsProperDue, added_proper, least_proper}
 use Rattle.report_text.proofs.answering.Answering.on_measure.Goals as goal
 
 pub returns-then-not-are_equal-clause-judged : goal.returns-then-not-are_equal-clause-judged
@@ -47,7 +33,7 @@ returns-clause-judged c =
     let held : holds p (MeasureLine rs) ≡ true = sym equal ∙ c.if-not-are_equal.false in
     let least : map due_claim c.in_ok-least.least.items ≡ least_claims (values_at p) = c.in_ok-least.ensures ∙ ap least_claims (c.deref-3.ensures.value ∙ values) in
     let claims : p.claims ++ least_claims (values_at p) ≡ map due_claim c.add_claims.new.claims.items =
-        ap (λ cs. p.claims ++ cs) (sym least) ∙ sym (map-append due_claim c.args.self.now.claims.items c.in_ok-least.least.items) ∙ ap (map due_claim) (sym c.in_ok-add_claims.ensures.added) in
+    ap (λ cs. p.claims ++ cs) (sym least) ∙ sym (map-append due_claim c.args.self.now.claims.items c.in_ok-least.least.items) ∙ ap (map due_claim) (sym c.in_ok-add_claims.ensures.added) in
     (after p (MeasureLine rs), record { item = MeasureLine rs; of = (rs, refl, size, read.2); words = read.0; leads = (held, refl) }, due_with p _ _ _ _ (sym c.due_after_verdicts-self.ensures) claims)
 
 pub returns-clause-fit : goal.returns-clause-fit

@@ -1,18 +1,7 @@
 use Rattle.report_lines.specs.ClaimsDue.{far_claims}
-use Rattle.std.proofs.Common.{rules, arith, ◌≡◌, ◌≢◌, ◌⊎◌, ℕ, Bool, true, false, List, [], ◌∷◌, ◌++◌, refl, ap, ◌∙◌, sym, subst, All, length, map, codes, decimal, inl, inr}
-use Rattle.report_words.specs.Words.{words_of}
-use Rattle.formula_text.specs.ValuationWords.{valuation_word}
-use Rattle.report_lines.specs.declared.kinds.Due.TheVariants as due
-use Rattle.report_lines.specs.declared.kinds.Subject.TheVariants.{TheConstraint}
-use Rattle.report_lines.specs.Following.{after}
-use Rattle.report_lines.specs.Holding.{holds}
-use Rattle.report_lines.specs.Items.{Item, ModelLine, VectorLine, NearestLine, MeasureLine, VerdictLine, NoModelLine, HasModelLine, GaveUpLine, item_words, subject_words, yes_word}
-use Rattle.report_lines.specs.Judged.{IsRightAs, IsWrongAs, absent, faulty}
-use Rattle.report_lines.specs.Places.{Position, DueAt, IsModelLine, IsNamedLine, rank_at, full_at, top_at}
-use Rattle.report_text.specs.Answering.{position_of, due_claim, AreProperAt, IsVectorAt, StandsAtAnswer}
-use Rattle.report_text.proofs.Claiming.{IsProperDue, added_proper, far_proper, lack_proper, least_proper, pushed_proper}
-use Rattle.report_text.proofs.FirstWords.{no_model, no_other, not_gave_up}
-use Rattle.report_text.proofs.Unions.{left, right, taken}
+use Rattle.std.proofs.Common.{rules, ◌≡◌, sym, subst, All, map}
+use Rattle.report_text.specs.Answering.{position_of, due_claim}
+use Rattle.report_text.proofs.Claiming.{IsProperDue, added_proper, far_proper}
 use Rattle.report_text.proofs.answering.Answering.take_next.Goals as goal
 
 pub returns-clause-fit : goal.returns-clause-fit
