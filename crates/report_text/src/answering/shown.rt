@@ -1,14 +1,14 @@
 // The lines of a shown model: the model, its vector, the nearest models and the measure.
-ghost use Rattle.std.specs.Prelude.{◌≡◌, ◌+◌, ◌<◌, ◌≤◌, ◌⊎◌, ◌++◌, true, false, length, map, All, IsTrue, IfOk, OnOk, OnErr, if◌then◌else◌, ◌==◌, nat_le};
+ghost use Rattle.std.specs.Prelude.{◌≡◌, ◌<◌, ◌≤◌, ◌⊎◌, true, length, map, All, IfOk, OnOk, OnErr, if◌then◌else◌, ◌==◌, nat_le};
 ghost use Rattle.std.specs.List.{list_all};
 ghost use Rattle.report_lines.specs.ClaimsDue.{far_claims};
 ghost use Rattle.report_lines.specs.Following.{due_after_verdicts};
-ghost use Rattle.report_lines.specs.Holding.{breaks, holds, is_as_good};
-ghost use Rattle.report_lines.specs.Items.{ModelLine, VectorLine, NearestLine, MeasureLine};
+ghost use Rattle.report_lines.specs.Holding.{breaks, holds};
+ghost use Rattle.report_lines.specs.Items.{ModelLine, VectorLine};
 ghost use Rattle.report_lines.specs.Places.{DueAt, IsModelLine, full_at, rank_at, top_at};
 ghost use Rattle.merge_encoding.specs.Named.{values_named};
 ghost use Rattle.ranks.specs.Limits.{distance_limit, entry_limit};
-ghost use Rattle.report_text.specs.Answering.{position_of, due_claim, StandsAtAnswer, FitsAt, IsFirst, IsAfterNo, IsMeasured, IsVectorAt, AreProperAt, IsFit};
+ghost use Rattle.report_text.specs.Answering.{position_of, due_claim, StandsAtAnswer, FitsAt, IsFirst, IsAfterNo, IsVectorAt, AreProperAt, IsFit};
 ghost use Rattle.report_text.specs.Judging.{JudgedAs};
 ghost use Rattle.report_text.specs.Taking.{Takes};
 
