@@ -25,3 +25,9 @@ pub mod PartsWhole
 pub mod PartsPlain
 pub mod PartsOnly
 pub mod PartsOne
+pub mod Claiming
+pub mod FirstWords
+pub mod Properness
+pub mod Ranking
+pub mod Rows
+pub mod Unions
