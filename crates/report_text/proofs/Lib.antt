@@ -1,3 +1,17 @@
+pub mod WrittenRange
+pub mod WrittenSteps
+pub mod WrittenText
+pub mod WrittenRun
+pub mod WrittenPlaces
+pub mod WrittenHead
+pub mod WrittenLog
+pub mod WrittenAnswer
+pub mod WrittenWhole
+pub mod FrontJudged
+pub mod FrontSaid
+pub mod FrontSteps
+pub mod WritingTexts
+pub mod WritingProofs
 pub mod PartsPlaces
 pub mod PartsLog
 pub mod PartsMain
@@ -8,6 +22,5 @@ pub mod PartsAnswer
 pub mod PartsProblem
 pub mod PartsHead
 pub mod PartsWhole
-pub mod PartsPlain
 pub mod PartsOnly
 pub mod PartsOne

@@ -14,7 +14,7 @@ use Rattle.report_lines.specs.Places.{Position, DueAt, start, conflict_limit}
 use Rattle.report_lines.specs.Following.{LeadsTo, after, after_said}
 use Rattle.report_lines.specs.Judged.{Run}
 use Rattle.report_lines.specs.Parts.{Asked, head_items}
-use Rattle.report_text.proofs.PartsPlaces.{Next, next}
+use Rattle.report_text.proofs.PartsPlaces.{Next, next, first_is}
 use Rattle.report_text.proofs.PartsAnswer.{fresh}
 use Rattle.report_text.proofs.PartsProblem.{Line, setting, Begins, begins, names_said, condition_said, comes, declared, State, ProblemRest, line_more, agent_by, agents_rest}
 
@@ -26,6 +26,10 @@ pub record HeadRest (end : Position) (xs : List Item) : Type 0 where
   pub some : 1 ≤ asked.conflicts
   pub few : asked.conflicts ≤ conflict_limit
   pub run : Run (fresh (setting asked empty_draft) due.Atoms) rest end
+
+four_items : (x1 x2 x3 x4 y1 y2 y3 y4 : Item) (xs a b c d : List Item) → xs ≡ x1 ∷ a → x1 ≡ y1 → a ≡ x2 ∷ b → x2 ≡ y2 → b ≡ x3 ∷ c → x3 ≡ y3 → c ≡ x4 ∷ d → x4 ≡ y4 → xs ≡ y1 ∷ y2 ∷ y3 ∷ y4 ∷ d
+four_items x1 x2 x3 x4 y1 y2 y3 y4 xs a b c d e1 f1 e2 f2 e3 f3 e4 f4 =
+    first_is x1 y1 xs a (y2 ∷ y3 ∷ y4 ∷ d) e1 f1 (first_is x2 y2 a b (y3 ∷ y4 ∷ d) e2 f2 (first_is x3 y3 b c (y4 ∷ d) e3 f3 (first_is x4 y4 c d d e4 f4 refl)))
 
 pub head_rest : (xs : List Item) (end : Position) → Run start xs end → end.due ≡ due.Over → HeadRest end xs
 head_rest xs end r over =
@@ -48,14 +52,10 @@ head_rest xs end r over =
     let d4 : DueAt due.Conflicts p3 n4.item = n4.of in
     let l4 : LeadsTo p3 (ConflictsLine d4.0) n4.place = subst (λ (y : Item). LeadsTo p3 y n4.place) d4.1 n4.leads in
     let p4 : Position = after p3 (ConflictsLine d4.0) in
-    let w4 : n3.rest ≡ ConflictsLine d4.0 ∷ n4.rest = n4.whole ∙ ap (λ (y : Item). y ∷ n4.rest) d4.1 in
-    let w3 : n2.rest ≡ AggregatorLine d3.0 ∷ n3.rest = n3.whole ∙ ap (λ (y : Item). y ∷ n3.rest) d3.1 in
-    let w2 : n1.rest ≡ DistanceLine d2.0 ∷ n2.rest = n2.whole ∙ ap (λ (y : Item). y ∷ n2.rest) d2.1 in
-    let w1 : xs ≡ HeadLine ∷ n1.rest = n1.whole ∙ ap (λ (y : Item). y ∷ n1.rest) d1 in
     record {
       asked = record { distance = d2.0; aggregator = d3.0; conflicts = d4.0 };
       rest = n4.rest;
-      items = w1 ∙ (ap (λ (ys : List Item). HeadLine ∷ ys) w2 ∙ (ap (λ (ys : List Item). HeadLine ∷ DistanceLine d2.0 ∷ ys) w3 ∙ ap (λ (ys : List Item). HeadLine ∷ DistanceLine d2.0 ∷ AggregatorLine d3.0 ∷ ys) w4));
+      items = four_items n1.item n2.item n3.item n4.item HeadLine (DistanceLine d2.0) (AggregatorLine d3.0) (ConflictsLine d4.0) xs n1.rest n2.rest n3.rest n4.rest n1.whole d1 n2.whole d2.1 n3.whole d3.1 n4.whole d4.1;
       some = d4.2;
       few = d4.3;
       run = subst (λ (m : Position). Run m n4.rest end) l4.1 n4.run;

@@ -44,6 +44,7 @@ use Rattle.report_text.proofs.PartsShown.{ShownFits, values_of}
 use Rattle.report_text.proofs.PartsVerdicts.{VerdictFits}
 use Rattle.report_text.proofs.PartsAnswer.{AnswerFits, WitnessedBy, Answered}
 use Rattle.report_text.proofs.PartsProblem.{Line, setting, ProblemRest}
+use Rattle.report_text.proofs.WrittenLog.{main_is}
 use Rattle.report_text.proofs.PartsHead.{HeadRest, head_rest, problem_rest}
 
 -- the text of lines
@@ -59,11 +60,6 @@ text_is text ls e = sym (join_with_byte-slice_split 10 text) ∙ (ap (join_with_
 not_empty : {A : Type 0} (xs : List A) → 1 ≤ length xs → xs ≢ []
 not_empty [] h e = omega arith
 not_empty (x ∷ xs) h e = cc
-
--- the main clauses by their names
-named_is : (distance : DistanceName) (aggregator : AggregatorName) (p : Profile) (asks : List Formula) → main_named distance aggregator p asks ≡ main_due (counter_named distance) (levels_named aggregator) p asks
-unfolding main_named
-named_is distance aggregator p asks = refl
 
 -- what bears out an answer of an accepted report
 abbrev pub TrueFor : DistanceName → AggregatorName → Type 0
@@ -174,7 +170,7 @@ has_parts law text k xs whole e =
     let a : Answered end.kind (setting asked d) p.tail = p.answered in
     let t : Ends law asked d limits end.kind a.answer a.tail =
     subst (λ (m : MainDue). Tail end.kind m asked.conflicts (kind_of_answer a.answer) (claims_due (values_of (setting asked d)) a.answer) a.tail)
-    (named_is asked.distance asked.aggregator (profile_of (made d limits)) d.asks) a.is_tail in
+    (main_is asked.distance asked.aggregator (profile_of (made d limits)) d.asks) a.is_tail in
     let r : Parts = parts_with d limits a.answer t.steps t.shown in
     let items : xs ≡ items_of asked r = items_by law asked d limits end.kind a.answer xs h.rest p.tail a.tail p.more t h.items p.items a.items lines in (
       asked,
