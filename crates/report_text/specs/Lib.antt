@@ -1,5 +1,5 @@
 pub mod Front
 pub mod Judging
-pub mod PartsLaws
 pub mod WrittenLaws
 pub mod WritingItems
+pub mod PartsLaws
