@@ -22,7 +22,6 @@ pub mod PartsAnswer
 pub mod PartsProblem
 pub mod PartsHead
 pub mod PartsWhole
-pub mod PartsPlain
 pub mod PartsOnly
 pub mod PartsOne
 pub mod Claiming

@@ -12,6 +12,7 @@ use Rattle.merge_model.specs.declared.agent.Agent.{Agent}
 use Rattle.merge_model.specs.declared.answer.Answer.{Answer}
 use Rattle.merge_model.specs.declared.answer.Answer.TheVariants.{Merged, Inconsistent, GaveUp}
 use Rattle.merge_model.specs.declared.answer.Shown.{Shown}
+use Rattle.merge_model.specs.declared.answer.Verdict.{Verdict}
 use Rattle.report_words.specs.Numbers.{HasNumeral}
 use Rattle.report_lines.specs.declared.kinds.Due.{Due}
 use Rattle.report_lines.specs.declared.kinds.Due.TheVariants as due
@@ -25,8 +26,8 @@ use Rattle.report_lines.specs.Places.{Position, DueAt, IsModelLine, IsAnswerLine
 use Rattle.report_lines.specs.Holding.{breaks}
 use Rattle.report_lines.specs.Following.{LeadsTo, after}
 use Rattle.report_lines.specs.Judged.{Run}
-use Rattle.report_lines.specs.Parts.{kind_of_answer, answer_items, shown_items}
-use Rattle.report_text.proofs.PartsPlaces.{Next, next}
+use Rattle.report_lines.specs.Parts.{kind_of_answer, answer_items, shown_items, verdict_items}
+use Rattle.report_text.proofs.PartsPlaces.{Next, next, first_is}
 use Rattle.report_text.proofs.PartsMain.{Tail, main_rest}
 use Rattle.report_text.proofs.PartsShown.{Setting, profile_in, op_in, main_in, values_of, rank_in, ShownFits, shown_with, Block, shown_rest}
 use Rattle.report_text.proofs.PartsVerdicts.{judging, VerdictFits, VerdictRest, verdicts_rest}
@@ -63,6 +64,9 @@ or_last : (a b : Bool) → b ≡ true → (a || b) ≡ true
 or_last true b e = refl
 or_last false b e = e
 
+merged_items : (shown : Shown) (measure : List ℕ) (verdicts : List Verdict) (xs tail : List Item) → xs ≡ MeasureLine measure ∷ (verdict_items 0 verdicts ++ tail) → shown_items shown ++ xs ≡ answer_items (Merged shown measure verdicts) ++ tail
+merged_items shown measure verdicts xs tail e = ap (λ (ys : List Item). shown_items shown ++ ys) e
+
 module _ (s : Setting) where
   -- an answer that merges, after its model, vector and nearest models
   measure_rest : (shown : Shown) (xs : List Item) (end : Position) → ShownFits (length s.draft.atoms) (length s.draft.agents) shown → IsWitness (op_in s) (profile_in s) shown
@@ -81,7 +85,7 @@ module _ (s : Setting) where
       record {
         answer = Merged shown d.0 v.verdicts;
         tail = v.tail;
-        items = ap (λ (ys : List Item). shown_items shown ++ ys) (n.whole ∙ (ap (λ (y : Item). y ∷ n.rest) d.1 ∙ ap (λ (ys : List Item). MeasureLine d.0 ∷ ys) v.items));
+        items = merged_items shown d.0 v.verdicts xs v.tail (first_is n.item (MeasureLine d.0) xs n.rest (verdict_items 0 v.verdicts ++ v.tail) n.whole d.1 v.items);
         is_tail = subst (λ (cs : List DueClaim). Tail end.kind (main_in s) s.conflicts kind.Merged cs v.tail) (append_assoc far (least_claims values) (verdict_claims values 0 v.verdicts)) v.is_tail;
         fits = (fits, d.2, All-from_recursion HasNumeral d.0 d.3, AllZip-long (IsWitnessedVerdict (op_in s) (profile_in s) (rank_in s shown.vector)) s.draft.asks v.verdicts v.judged, v.fits);
         witnessed = record {

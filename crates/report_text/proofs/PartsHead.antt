@@ -8,15 +8,24 @@ use Rattle.problem_reading.specs.Faults.{line_form}
 use Rattle.problem_reading.specs.Saying as saying
 use Rattle.problem_reading.specs.Spelling.{no_lines}
 use Rattle.problem_laws.specs.CanonicalOrder.{after_atoms, in_agents, no_line, atoms_come, constraint_comes}
+use Rattle.merge_model.specs.declared.operator.AggregatorName.{AggregatorName}
+use Rattle.merge_model.specs.declared.operator.AggregatorName.TheVariants.{Sum}
+use Rattle.merge_model.specs.declared.operator.DistanceName.{DistanceName}
+use Rattle.merge_model.specs.declared.operator.DistanceName.TheVariants.{Drastic}
+use Rattle.report_lines.specs.declared.kinds.Due.{Due}
 use Rattle.report_lines.specs.declared.kinds.Due.TheVariants as due
 use Rattle.report_lines.specs.Items.{Item, HeadLine, DistanceLine, AggregatorLine, ConflictsLine, ProblemLine}
 use Rattle.report_lines.specs.Places.{Position, DueAt, start, conflict_limit}
 use Rattle.report_lines.specs.Following.{LeadsTo, after, after_said}
 use Rattle.report_lines.specs.Judged.{Run}
 use Rattle.report_lines.specs.Parts.{Asked, head_items}
-use Rattle.report_text.proofs.PartsPlaces.{Next, next}
+use Rattle.report_text.proofs.PartsPlaces.{Next, next, first_is}
 use Rattle.report_text.proofs.PartsAnswer.{fresh}
 use Rattle.report_text.proofs.PartsProblem.{Line, setting, Begins, begins, names_said, condition_said, comes, declared, State, ProblemRest, line_more, agent_by, agents_rest}
+
+-- a place in the head
+abbrev pub headed : Due → DistanceName → AggregatorName → Position
+headed now distance aggregator = record start { due = now; distance = distance; aggregator = aggregator }
 
 -- the four lines of the head, and what follows them
 pub record HeadRest (end : Position) (xs : List Item) : Type 0 where
@@ -27,39 +36,47 @@ pub record HeadRest (end : Position) (xs : List Item) : Type 0 where
   pub few : asked.conflicts ≤ conflict_limit
   pub run : Run (fresh (setting asked empty_draft) due.Atoms) rest end
 
-pub head_rest : (xs : List Item) (end : Position) → Run start xs end → end.due ≡ due.Over → HeadRest end xs
-head_rest xs end r over =
-    let n1 : Next due.Head start end xs = next due.Head start end xs refl refl over r in
-    let d1 : n1.item ≡ HeadLine = n1.of in
-    let l1 : LeadsTo start HeadLine n1.place = subst (λ (y : Item). LeadsTo start y n1.place) d1 n1.leads in
-    let p1 : Position = after start HeadLine in
-    let r1 : Run p1 n1.rest end = subst (λ (m : Position). Run m n1.rest end) l1.1 n1.run in
-    let n2 : Next due.Distance p1 end n1.rest = next due.Distance p1 end n1.rest refl refl over r1 in
-    let d2 : DueAt due.Distance p1 n2.item = n2.of in
-    let l2 : LeadsTo p1 (DistanceLine d2.0) n2.place = subst (λ (y : Item). LeadsTo p1 y n2.place) d2.1 n2.leads in
-    let p2 : Position = after p1 (DistanceLine d2.0) in
-    let r2 : Run p2 n2.rest end = subst (λ (m : Position). Run m n2.rest end) l2.1 n2.run in
-    let n3 : Next due.Aggregator p2 end n2.rest = next due.Aggregator p2 end n2.rest refl refl over r2 in
-    let d3 : DueAt due.Aggregator p2 n3.item = n3.of in
-    let l3 : LeadsTo p2 (AggregatorLine d3.0) n3.place = subst (λ (y : Item). LeadsTo p2 y n3.place) d3.1 n3.leads in
-    let p3 : Position = after p2 (AggregatorLine d3.0) in
-    let r3 : Run p3 n3.rest end = subst (λ (m : Position). Run m n3.rest end) l3.1 n3.run in
-    let n4 : Next due.Conflicts p3 end n3.rest = next due.Conflicts p3 end n3.rest refl refl over r3 in
-    let d4 : DueAt due.Conflicts p3 n4.item = n4.of in
-    let l4 : LeadsTo p3 (ConflictsLine d4.0) n4.place = subst (λ (y : Item). LeadsTo p3 y n4.place) d4.1 n4.leads in
-    let p4 : Position = after p3 (ConflictsLine d4.0) in
-    let w4 : n3.rest ≡ ConflictsLine d4.0 ∷ n4.rest = n4.whole ∙ ap (λ (y : Item). y ∷ n4.rest) d4.1 in
-    let w3 : n2.rest ≡ AggregatorLine d3.0 ∷ n3.rest = n3.whole ∙ ap (λ (y : Item). y ∷ n3.rest) d3.1 in
-    let w2 : n1.rest ≡ DistanceLine d2.0 ∷ n2.rest = n2.whole ∙ ap (λ (y : Item). y ∷ n2.rest) d2.1 in
-    let w1 : xs ≡ HeadLine ∷ n1.rest = n1.whole ∙ ap (λ (y : Item). y ∷ n1.rest) d1 in
-    record {
-      asked = record { distance = d2.0; aggregator = d3.0; conflicts = d4.0 };
-      rest = n4.rest;
-      items = w1 ∙ (ap (λ (ys : List Item). HeadLine ∷ ys) w2 ∙ (ap (λ (ys : List Item). HeadLine ∷ DistanceLine d2.0 ∷ ys) w3 ∙ ap (λ (ys : List Item). HeadLine ∷ DistanceLine d2.0 ∷ AggregatorLine d3.0 ∷ ys) w4));
-      some = d4.2;
-      few = d4.3;
-      run = subst (λ (m : Position). Run m n4.rest end) l4.1 n4.run;
-    }
+module _ (end : Position) (over : end.due ≡ due.Over) where
+  -- the rest of a head, after items that came before
+  conflicts_rest : (d : DistanceName) (a : AggregatorName) (xs : List Item) → Run (headed due.Conflicts d a) xs end → HeadRest end (HeadLine ∷ DistanceLine d ∷ AggregatorLine a ∷ xs)
+  conflicts_rest d a xs r =
+      let p : Position = headed due.Conflicts d a in
+      let n : Next due.Conflicts p end xs = next due.Conflicts p end xs refl refl over r in
+      let i : DueAt due.Conflicts p n.item = n.of in
+      let l : LeadsTo p (ConflictsLine i.0) n.place = subst (λ (y : Item). LeadsTo p y n.place) i.1 n.leads in
+      record {
+        asked = record { distance = d; aggregator = a; conflicts = i.0 };
+        rest = n.rest;
+        items = ap (λ (ys : List Item). HeadLine ∷ DistanceLine d ∷ AggregatorLine a ∷ ys) (first_is n.item (ConflictsLine i.0) xs n.rest n.rest n.whole i.1 refl);
+        some = i.2;
+        few = i.3;
+        run = subst (λ (m : Position). Run m n.rest end) l.1 n.run;
+      }
+
+  aggregator_rest : (d : DistanceName) (xs : List Item) → Run (headed due.Aggregator d Sum) xs end → HeadRest end (HeadLine ∷ DistanceLine d ∷ xs)
+  aggregator_rest d xs r =
+      let p : Position = headed due.Aggregator d Sum in
+      let n : Next due.Aggregator p end xs = next due.Aggregator p end xs refl refl over r in
+      let i : DueAt due.Aggregator p n.item = n.of in
+      let l : LeadsTo p (AggregatorLine i.0) n.place = subst (λ (y : Item). LeadsTo p y n.place) i.1 n.leads in
+      subst (λ (ys : List Item). HeadRest end (HeadLine ∷ DistanceLine d ∷ ys)) (sym (first_is n.item (AggregatorLine i.0) xs n.rest n.rest n.whole i.1 refl))
+      (conflicts_rest d i.0 n.rest (subst (λ (m : Position). Run m n.rest end) l.1 n.run))
+
+  distance_rest : (xs : List Item) → Run (headed due.Distance Drastic Sum) xs end → HeadRest end (HeadLine ∷ xs)
+  distance_rest xs r =
+      let p : Position = headed due.Distance Drastic Sum in
+      let n : Next due.Distance p end xs = next due.Distance p end xs refl refl over r in
+      let i : DueAt due.Distance p n.item = n.of in
+      let l : LeadsTo p (DistanceLine i.0) n.place = subst (λ (y : Item). LeadsTo p y n.place) i.1 n.leads in
+      subst (λ (ys : List Item). HeadRest end (HeadLine ∷ ys)) (sym (first_is n.item (DistanceLine i.0) xs n.rest n.rest n.whole i.1 refl))
+      (aggregator_rest i.0 n.rest (subst (λ (m : Position). Run m n.rest end) l.1 n.run))
+
+  pub head_rest : (xs : List Item) → Run start xs end → HeadRest end xs
+  head_rest xs r =
+      let n : Next due.Head start end xs = next due.Head start end xs refl refl over r in
+      let i : DueAt due.Head start n.item = n.of in
+      let l : LeadsTo start HeadLine n.place = subst (λ (y : Item). LeadsTo start y n.place) i n.leads in
+      subst (λ (ys : List Item). HeadRest end ys) (sym (first_is n.item HeadLine xs n.rest n.rest n.whole i refl)) (distance_rest n.rest (subst (λ (m : Position). Run m n.rest end) l.1 n.run))
 
 -- a canonical line of atoms names one
 some_names : (line : Line) (atoms : List Line) → saying.Says empty_draft line (Names atoms) → IsWritten empty_draft line (Names atoms) → 1 ≤ length atoms

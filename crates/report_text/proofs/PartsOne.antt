@@ -5,6 +5,7 @@ use Rattle.std.specs.List.{AllByRecursion, list_all}
 use Rattle.std.proofs.lemmas.List.{append_cancel_right, map-append}
 use Rattle.std.proofs.lemmas.List.Elements.{recursion_from_All}
 use Rattle.std.proofs.lemmas.List.Folds.{list_all-append}
+use Rattle.clause_store.proofs.Each.{each_append}
 use Rattle.clause_store.proofs.Truths.{and_left, and_right, and_both}
 use Rattle.clause_store.specs.declared.lit.Lit.{Lit}
 use Rattle.formulas.specs.declared.formula.Formula.{Formula}
@@ -38,7 +39,7 @@ use Rattle.report_lines.specs.Accepted.{Parts}
 use Rattle.report_lines.specs.Items.{Item, HeadLine, DistanceLine, AggregatorLine, ConflictsLine, ProblemLine, ModelLine, VectorLine, NearestLine, MeasureLine, VerdictLine, NoModelLine, HasModelLine, GaveUpLine, MainLine, LogLine, ShownLine, EndLine, item_line}
 use Rattle.report_lines.specs.Judged.{pieces_of}
 use Rattle.report_lines.specs.Places.{start, end_number}
-use Rattle.report_lines.specs.Parts.{Asked, kind_of_answer, shown_items, verdict_items, named_item, base_items, answer_items, step_items, shown_claims, head_items, log_items, items_of, report_text, HasVerdictForm, HasShownForm, HasEntryForm, HasAnswerForm, HaveLines, HasForm, HasParts}
+use Rattle.report_lines.specs.Parts.{Asked, items_text, kind_of_answer, shown_items, verdict_items, named_item, base_items, answer_items, step_items, shown_claims, head_items, log_items, items_of, report_text, HasVerdictForm, HasShownForm, HasEntryForm, HasAnswerForm, HaveLines, HasForm, HasParts}
 use Rattle.report_lines.specs.declared.kinds.Subject.{Subject}
 use Rattle.report_lines.specs.declared.kinds.Subject.TheVariants.{TheConstraint, BaseOf}
 use Rattle.report_text.specs.PartsLaws.{AreSame}
@@ -46,27 +47,12 @@ use Rattle.report_text.proofs.PartsLog.{stored}
 use Rattle.report_text.proofs.PartsShown.{Setting, profile_in, values_of, ShownFits}
 use Rattle.report_text.proofs.PartsVerdicts.{judging, VerdictFits}
 use Rattle.report_text.proofs.PartsAnswer.{fresh, AnswerFits}
-use Rattle.report_text.proofs.PartsPlain.{IsLine, item_is_line, problem_are_lines, split_lines}
-use Rattle.report_text.proofs.PartsOnly.{Same, first_same, rest_same, same_item, answers_same}
+use Rattle.report_text.proofs.WrittenHead.{problem_feed}
+use Rattle.report_text.proofs.WrittenSteps.{line_is_step}
+use Rattle.report_text.proofs.WrittenText.{HasNoFeed, are_plain, pieces_are}
+use Rattle.report_text.proofs.PartsOnly.{Same, named_feed, first_same, rest_same, same_item, answers_same}
 
 -- steps
-
-lits_are : (ls : List Lit) → AllByRecursion (λ l. (1 ≤ l.var) × (l.var < 2 ^ 32)) ls → AllByRecursion IsLiteral (map widen ls)
-lits_are [] h = tt
-lits_are (l ∷ ls) h =
-    let low : 1 ≤ l.var = h.0.0 in
-    let high : l.var < 2 ^ 32 = h.0.1 in
-    (record { low = low; high = omega (arith, high) }, lits_are ls h.1)
-
-links_are : (ls : List Link) → AllByRecursion (λ link. (1 ≤ link.pivot.var) × (link.pivot.var < 2 ^ 32)) ls → AllByRecursion (λ link. HasNumeral link.number) ls → AllByRecursion IsLink (map widen_link ls)
-links_are [] h k = tt
-links_are (l ∷ ls) h k =
-    let low : 1 ≤ l.pivot.var = h.0.0 in
-    let high : l.pivot.var < 2 ^ 32 = h.0.1 in
-    (record { pivot = record { low = low; high = omega (arith, high) }; number = k.0 }, links_are ls h.1 k.1)
-
-step_is : (n : ℕ) (s : Step) → HasLine n s → IsStep (step_line n s)
-step_is n s h = record { number = h.number; clause = lits_are s.clause h.clause; first = h.first; chain = links_are s.chain h.pivots h.links }
 
 line_is : (a b : StepLine) → LogLine a ≡ LogLine b → a ≡ b
 line_is a b e = cc
@@ -108,7 +94,7 @@ module _ (s : Setting) where
       let y : Item = LogLine (step_line n t) in
       let xs2 : List Item = step_items (n + 1) ss ++ xs in
       let ys2 : List Item = step_items (n + 1) ts ++ ys in
-      let one = same_item due.Log (fresh s due.Log) x y refl refl (inl (step_line n a, refl, step_is n a h.0)) (inl (step_line n t, refl, step_is n t k.0)) (first_same x y xs2 ys2 e) in
+      let one = same_item due.Log (fresh s due.Log) x y tt tt (inl (step_line n a, refl, line_is_step n a h.0)) (inl (step_line n t, refl, line_is_step n t k.0)) (first_same x y xs2 ys2 e) in
       let same : a ≡ t = sym (narrow_is n a) ∙ (ap narrow_step (line_is (step_line n a) (step_line n t) one) ∙ narrow_is n t) in
       let r = steps_same (n + 1) ss ts xs ys h.1 k.1 i j (rest_same x y xs2 ys2 e) in
       (cons_steps a t ss ts same r.0, r.1)
@@ -126,7 +112,7 @@ module _ (s : Setting) where
   numbers_same (c ∷ cs) (n ∷ ns) (m ∷ ms) k j a b f g e =
       let x : Item = ShownLine c n in
       let y : Item = ShownLine c m in
-      let one = same_item due.Proofs (judging s due.Proofs 0 [] [] [] (c ∷ [])) x y refl refl (n, refl, f.0) (m, refl, g.0) (first_same x y (proof_items cs ns k) (proof_items cs ms j) e) in
+      let one = same_item due.Proofs (judging s due.Proofs 0 [] [] [] (c ∷ [])) x y tt tt (n, refl, f.0) (m, refl, g.0) (first_same x y (proof_items cs ns k) (proof_items cs ms j) e) in
       let r = numbers_same cs ns ms k j (omega (arith, a)) (omega (arith, b)) f.1 g.1 (rest_same x y (proof_items cs ns k) (proof_items cs ms j) e) in
       cons_numbers n m ns ms (number_is c n m one) r
 
@@ -191,64 +177,36 @@ answer_fits asked r GaveUp h = tt
 form_fits : (asked : Asked) (r : Parts) → HasForm asked r → Fits (setting_in asked r.problem) r.answer r.steps r.shown
 form_fits asked r h = record { answer = answer_fits asked r r.answer h.answer; lines = h.lines; count = h.proofs; numbers = recursion_from_All HasNumeral r.shown h.numbers }
 
--- the items of a report are lines
+-- no line feed stands in a line
 
-abbrev Fine : List Item → Type 0
-Fine xs = AllByRecursion (λ x. IsLine (item_line x)) xs
+verdicts_feed : (q : ℕ) (vs : List Verdict) → AllByRecursion HasNoFeed (verdict_items q vs)
+verdicts_feed q [] = tt
+verdicts_feed q (Yes ∷ vs) = (tt, verdicts_feed (q + 1) vs)
+verdicts_feed q (No a ∷ vs) = (tt, (tt, (tt, (tt, verdicts_feed (q + 1) vs))))
 
-both_fine : (xs ys : List Item) → Fine xs → Fine ys → Fine (xs ++ ys)
-both_fine [] ys h k = k
-both_fine (x ∷ xs) ys h k = (h.0, both_fine xs ys h.1 k)
+bases_feed : (i : ℕ) (es : List (Option (List Bool))) → AllByRecursion HasNoFeed (base_items i es)
+bases_feed i [] = tt
+bases_feed i (a ∷ es) = (named_feed (BaseOf i) a, bases_feed (i + 1) es)
 
-fine_lines : (xs : List Item) → Fine xs → AllByRecursion IsLine (map item_line xs)
-fine_lines [] h = tt
-fine_lines (x ∷ xs) h = (h.0, fine_lines xs h.1)
+answer_feed : (a : Answer) → AllByRecursion HasNoFeed (answer_items a)
+answer_feed (Merged best measure verdicts) = (tt, (tt, (tt, (tt, verdicts_feed 0 verdicts))))
+answer_feed (Inconsistent constraint agents) = (named_feed TheConstraint constraint, bases_feed 0 agents)
+answer_feed GaveUp = (tt, tt)
 
-shown_fine : (a : Shown) → Fine (shown_items a)
-shown_fine a = (item_is_line (ModelLine a.model) refl, (item_is_line (VectorLine a.vector) refl, (item_is_line (NearestLine a.nearest) refl, tt)))
+steps_feed : (n : ℕ) (ss : List Step) → AllByRecursion HasNoFeed (step_items n ss)
+steps_feed n [] = tt
+steps_feed n (s ∷ ss) = (tt, steps_feed (n + 1) ss)
 
-verdicts_fine : (q : ℕ) (vs : List Verdict) → Fine (verdict_items q vs)
-verdicts_fine q [] = tt
-verdicts_fine q (Yes ∷ vs) = (item_is_line (VerdictLine q true) refl, verdicts_fine (q + 1) vs)
-verdicts_fine q (No a ∷ vs) = (item_is_line (VerdictLine q false) refl, both_fine (shown_items a) (verdict_items (q + 1) vs) (shown_fine a) (verdicts_fine (q + 1) vs))
+proofs_feed : (cs : List DueClaim) (ns : List ℕ) (k : ℕ) → AllByRecursion HasNoFeed (proof_items cs ns k)
+proofs_feed [] ns k = (tt, tt)
+proofs_feed (c ∷ cs) [] k = (tt, tt)
+proofs_feed (c ∷ cs) (n ∷ ns) k = (tt, proofs_feed cs ns k)
 
-named_fine : (t : Subject) (a : Option (List Bool)) → IsLine (item_line (named_item t a))
-named_fine t None = item_is_line (NoModelLine t) refl
-named_fine t (Some w) = item_is_line (HasModelLine t w) refl
-
-bases_fine : (i : ℕ) (es : List (Option (List Bool))) → Fine (base_items i es)
-bases_fine i [] = tt
-bases_fine i (a ∷ es) = (named_fine (BaseOf i) a, bases_fine (i + 1) es)
-
-answer_fine : (a : Answer) → Fine (answer_items a)
-answer_fine (Merged best measure verdicts) = both_fine (shown_items best) (MeasureLine measure ∷ verdict_items 0 verdicts) (shown_fine best) (item_is_line (MeasureLine measure) refl, verdicts_fine 0 verdicts)
-answer_fine (Inconsistent constraint agents) = (named_fine TheConstraint constraint, bases_fine 0 agents)
-answer_fine GaveUp = (item_is_line GaveUpLine refl, tt)
-
-steps_fine : (n : ℕ) (ss : List Step) → Fine (step_items n ss)
-steps_fine n [] = tt
-steps_fine n (s ∷ ss) = (item_is_line (LogLine (step_line n s)) refl, steps_fine (n + 1) ss)
-
-claims_fine : (cs : List DueClaim) (ns : List ℕ) → Fine (shown_claims cs ns)
-claims_fine [] ns = tt
-claims_fine (c ∷ cs) [] = tt
-claims_fine (c ∷ cs) (n ∷ ns) = (item_is_line (ShownLine c n) refl, claims_fine cs ns)
-
-later_fine : (s : Setting) (a : Answer) (ss : List Step) (ns : List ℕ) → Fine (later s a ss ns)
-later_fine s a ss ns =
+later_feed : (s : Setting) (a : Answer) (ss : List Step) (ns : List ℕ) → AllByRecursion HasNoFeed (later s a ss ns)
+later_feed s a ss ns =
     let n : ℕ = length (stored (main_of_setting s)) in
-    let k : ℕ = end_number (kind_of_answer a) in (
-      item_is_line (MainLine (main_of_setting s).vars n) refl,
-      both_fine (step_items n ss) (proof_items (claims_in s a) ns k) (steps_fine n ss) (both_fine (shown_claims (claims_in s a) ns) (EndLine k ∷ []) (claims_fine (claims_in s a) ns) (item_is_line (EndLine k) refl, tt)),
-    )
-
-problem_fine : (ls : List (List ℕ)) → AllByRecursion IsLine ls → Fine (map ProblemLine ls)
-problem_fine [] h = tt
-problem_fine (l ∷ ls) h = (subst IsLine (sym (line_of_words l)) h.0, problem_fine ls h.1)
-
-head_fine : (asked : Asked) → Fine (head_items asked)
-head_fine asked =
-    (item_is_line HeadLine refl, (item_is_line (DistanceLine asked.distance) refl, (item_is_line (AggregatorLine asked.aggregator) refl, (item_is_line (ConflictsLine asked.conflicts) refl, tt))))
+    let k : ℕ = end_number (kind_of_answer a) in
+    (tt, each_append HasNoFeed (step_items n ss) (proof_items (claims_in s a) ns k) (steps_feed n ss) (proofs_feed (claims_in s a) ns k))
 
 -- the items of a report, from its problem on
 abbrev body : Asked → Parts → List Item
@@ -260,21 +218,20 @@ whole asked r = head_items asked ++ (map ProblemLine (problem_lines r.problem) +
 items_are : (asked : Asked) (r : Parts) → items_of asked r ≡ whole asked r
 items_are asked r = ap (λ (xs : List Item). head_items asked ++ xs) (append_assoc (map ProblemLine (problem_lines r.problem)) (answer_items r.answer) (log_items asked r))
 
-whole_fine : (asked : Asked) (r : Parts) → Fine (whole asked r)
-whole_fine asked r =
-    both_fine (head_items asked) (map ProblemLine (problem_lines r.problem) ++ body asked r) (head_fine asked)
-    (both_fine (map ProblemLine (problem_lines r.problem)) (body asked r) (problem_fine (problem_lines r.problem) (problem_are_lines r.problem))
-    (both_fine (answer_items r.answer) (later (setting_in asked r.problem) r.answer r.steps r.shown) (answer_fine r.answer) (later_fine (setting_in asked r.problem) r.answer r.steps r.shown)))
+whole_feed : (asked : Asked) (r : Parts) → AllByRecursion HasNoFeed (whole asked r)
+whole_feed asked r =
+    each_append HasNoFeed (head_items asked) (map ProblemLine (problem_lines r.problem) ++ body asked r) (tt, (tt, (tt, (tt, tt))))
+    (each_append HasNoFeed (map ProblemLine (problem_lines r.problem)) (body asked r) (problem_feed r.problem)
+    (each_append HasNoFeed (answer_items r.answer) (later (setting_in asked r.problem) r.answer r.steps r.shown) (answer_feed r.answer) (later_feed (setting_in asked r.problem) r.answer r.steps r.shown)))
 
 -- two reports of one text have the same lines
 whole_same : (text : List ℕ) (a b : Asked) (r s : Parts) → text ≡ report_text a r → text ≡ report_text b s → Same (whole a r) (whole b s)
 whole_same text a b r s e f =
-    let xs : List (List ℕ) = map item_line (whole a r) in
-    let ys : List (List ℕ) = map item_line (whole b s) in
-    let e2 : text ≡ lines_text xs = e ∙ ap (λ (zs : List Item). lines_text (map item_line zs)) (items_are a r) in
-    let f2 : text ≡ lines_text ys = f ∙ ap (λ (zs : List Item). lines_text (map item_line zs)) (items_are b s) in
-    append_cancel_right xs ys ([] ∷ [])
-    (sym (split_lines xs (fine_lines (whole a r) (whole_fine a r))) ∙ (ap pieces_of (sym e2 ∙ f2) ∙ split_lines ys (fine_lines (whole b s) (whole_fine b s))))
+    let xs : List Item = whole a r in
+    let ys : List Item = whole b s in
+    let first : pieces_of text ≡ map item_line xs ++ [] ∷ [] = ap pieces_of (e ∙ ap items_text (items_are a r)) ∙ pieces_are xs (are_plain xs (whole_feed a r)) in
+    let second : pieces_of text ≡ map item_line ys ++ [] ∷ [] = ap pieces_of (f ∙ ap items_text (items_are b s)) ∙ pieces_are ys (are_plain ys (whole_feed b s)) in
+    append_cancel_right (map item_line xs) (map item_line ys) ([] ∷ []) (sym first ∙ second)
 
 -- the problem
 
@@ -400,9 +357,9 @@ one_parts text a b r s h k =
     let e2 : Same xs2 ys2 = rest_same (DistanceLine a.distance) (DistanceLine b.distance) xs2 ys2 e1 in
     let e3 : Same xs3 ys3 = rest_same (AggregatorLine a.aggregator) (AggregatorLine b.aggregator) xs3 ys3 e2 in
     let e4 : Same xs ys = rest_same (ConflictsLine a.conflicts) (ConflictsLine b.conflicts) xs ys e3 in
-    let d = same_item due.Distance start (DistanceLine a.distance) (DistanceLine b.distance) refl refl (a.distance, refl) (b.distance, refl) (first_same (DistanceLine a.distance) (DistanceLine b.distance) xs2 ys2 e1) in
-    let g = same_item due.Aggregator start (AggregatorLine a.aggregator) (AggregatorLine b.aggregator) refl refl (a.aggregator, refl) (b.aggregator, refl) (first_same (AggregatorLine a.aggregator) (AggregatorLine b.aggregator) xs3 ys3 e2) in
-    let c = same_item due.Conflicts start (ConflictsLine a.conflicts) (ConflictsLine b.conflicts) refl refl (a.conflicts, refl, h.form.some_conflict, h.form.few_conflicts) (b.conflicts, refl, k.form.some_conflict, k.form.few_conflicts)
+    let d = same_item due.Distance start (DistanceLine a.distance) (DistanceLine b.distance) tt tt (a.distance, refl) (b.distance, refl) (first_same (DistanceLine a.distance) (DistanceLine b.distance) xs2 ys2 e1) in
+    let g = same_item due.Aggregator start (AggregatorLine a.aggregator) (AggregatorLine b.aggregator) tt tt (a.aggregator, refl) (b.aggregator, refl) (first_same (AggregatorLine a.aggregator) (AggregatorLine b.aggregator) xs3 ys3 e2) in
+    let c = same_item due.Conflicts start (ConflictsLine a.conflicts) (ConflictsLine b.conflicts) tt tt (a.conflicts, refl, h.form.some_conflict, h.form.few_conflicts) (b.conflicts, refl, k.form.some_conflict, k.form.few_conflicts)
     (first_same (ConflictsLine a.conflicts) (ConflictsLine b.conflicts) xs ys e3) in
     let asked : a ≡ b = asked_is a b (distance_is a.distance b.distance d) (aggregator_is a.aggregator b.aggregator g) (conflicts_is a.conflicts b.conflicts c) in
     let cut = split_same (problem_lines r.problem) (problem_lines s.problem) (map item_line (body a r)) (map item_line (body b s)) (problem_ac r.problem) (problem_ac s.problem)

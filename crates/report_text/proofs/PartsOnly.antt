@@ -8,15 +8,16 @@ use Rattle.merge_model.specs.declared.answer.Shown.{Shown}
 use Rattle.merge_model.specs.declared.answer.Verdict.{Verdict}
 use Rattle.merge_model.specs.declared.answer.Verdict.TheVariants.{Yes, No}
 use Rattle.report_words.specs.Numbers.{HasNumeral}
+use Rattle.report_words.specs.Words.{words_of}
 use Rattle.report_lines.specs.declared.kinds.Due.{Due}
 use Rattle.report_lines.specs.declared.kinds.Due.TheVariants as due
 use Rattle.report_lines.specs.declared.kinds.Subject.{Subject}
 use Rattle.report_lines.specs.declared.kinds.Subject.TheVariants.{TheConstraint, BaseOf}
-use Rattle.report_lines.specs.Items.{Item, ModelLine, VectorLine, NearestLine, MeasureLine, VerdictLine, GaveUpLine, item_line}
+use Rattle.report_lines.specs.Items.{Item, ModelLine, VectorLine, NearestLine, MeasureLine, VerdictLine, GaveUpLine, item_words, item_line}
 use Rattle.report_lines.specs.Places.{Position, DueAt, IsOver, IsAnswerLine, IsNamedLine}
 use Rattle.report_lines.specs.Parts.{shown_items, verdict_items, named_item, base_items, answer_items}
 use Rattle.report_lines.proofs.OneItem.{one_item}
-use Rattle.report_text.proofs.PartsPlain.{is_other, words_same}
+use Rattle.report_text.proofs.WrittenText.{HasNoFeed, are_plain}
 use Rattle.report_text.proofs.PartsShown.{Setting, rank_in, ShownFits, shown_with}
 use Rattle.report_text.proofs.PartsVerdicts.{judging, VerdictFits}
 use Rattle.report_text.proofs.PartsNamed.{naming, EntryFits}
@@ -38,9 +39,12 @@ first_same x y xs ys e = line_head (item_line x) (item_line y) (map item_line xs
 pub rest_same : (x y : Item) (xs ys : List Item) → Same (x ∷ xs) (y ∷ ys) → Same xs ys
 rest_same x y xs ys e = line_tail (item_line x) (item_line y) (map item_line xs) (map item_line ys) e
 
+words_are : (x : Item) → HasNoFeed x → words_of (item_line x) ≡ item_words x
+words_are x h = let all = are_plain (x ∷ []) (h, tt) in all.0.words
+
 -- at most one item that is due has a line
-pub same_item : (d : Due) (p : Position) (x y : Item) → is_other x ≡ true → is_other y ≡ true → DueAt d p x → DueAt d p y → item_line x ≡ item_line y → x ≡ y
-same_item d p x y h k i j e = one_item d p x y i j (words_same x y h k e)
+pub same_item : (d : Due) (p : Position) (x y : Item) → HasNoFeed x → HasNoFeed y → DueAt d p x → DueAt d p y → item_line x ≡ item_line y → x ≡ y
+same_item d p x y h k i j e = one_item d p x y i j (sym (words_are x h) ∙ (ap words_of e ∙ words_are y k))
 
 -- what items have in common
 
@@ -68,9 +72,9 @@ entry_is s (Some w) (Some v) e = cc
 shown_is : (w v : List Bool) (ds es : List ℕ) (ws vs : List (List Bool)) → w ≡ v → ds ≡ es → ws ≡ vs → shown_with w ds ws ≡ shown_with v es vs
 shown_is w v ds es ws vs e f g = cc
 
-named_other : (s : Subject) (a : Option (List Bool)) → is_other (named_item s a) ≡ true
-named_other s None = refl
-named_other s (Some w) = refl
+pub named_feed : (s : Subject) (a : Option (List Bool)) → HasNoFeed (named_item s a)
+named_feed s None = tt
+named_feed s (Some w) = tt
 
 cons_verdicts : (v u : Verdict) (vs us : List Verdict) → v ≡ u → vs ≡ us → v ∷ vs ≡ u ∷ us
 cons_verdicts v u vs us e f = cc
@@ -94,11 +98,11 @@ module _ (s : Setting) where
       let e1 : Same (VectorLine a.vector ∷ NearestLine a.nearest ∷ xs) (VectorLine b.vector ∷ NearestLine b.nearest ∷ ys) =
       rest_same (ModelLine a.model) (ModelLine b.model) (VectorLine a.vector ∷ NearestLine a.nearest ∷ xs) (VectorLine b.vector ∷ NearestLine b.nearest ∷ ys) e in
       let e2 : Same (NearestLine a.nearest ∷ xs) (NearestLine b.nearest ∷ ys) = rest_same (VectorLine a.vector) (VectorLine b.vector) (NearestLine a.nearest ∷ xs) (NearestLine b.nearest ∷ ys) e1 in
-      let model = same_item due.Model p (ModelLine a.model) (ModelLine b.model) refl refl (a.model, refl, h.model) (b.model, refl, k.model)
+      let model = same_item due.Model p (ModelLine a.model) (ModelLine b.model) tt tt (a.model, refl, h.model) (b.model, refl, k.model)
       (first_same (ModelLine a.model) (ModelLine b.model) (VectorLine a.vector ∷ NearestLine a.nearest ∷ xs) (VectorLine b.vector ∷ NearestLine b.nearest ∷ ys) e) in
-      let vector = same_item due.Vector p (VectorLine a.vector) (VectorLine b.vector) refl refl (a.vector, refl, h.entries, recursion_from_All HasNumeral a.vector h.numbers)
+      let vector = same_item due.Vector p (VectorLine a.vector) (VectorLine b.vector) tt tt (a.vector, refl, h.entries, recursion_from_All HasNumeral a.vector h.numbers)
       (b.vector, refl, k.entries, recursion_from_All HasNumeral b.vector k.numbers) (first_same (VectorLine a.vector) (VectorLine b.vector) (NearestLine a.nearest ∷ xs) (NearestLine b.nearest ∷ ys) e1) in
-      let nearest = same_item due.Nearest p (NearestLine a.nearest) (NearestLine b.nearest) refl refl (a.nearest, refl, h.nearest, recursion_from_All (IsOver p) a.nearest h.over)
+      let nearest = same_item due.Nearest p (NearestLine a.nearest) (NearestLine b.nearest) tt tt (a.nearest, refl, h.nearest, recursion_from_All (IsOver p) a.nearest h.over)
       (b.nearest, refl, k.nearest, recursion_from_All (IsOver p) b.nearest k.over) (first_same (NearestLine a.nearest) (NearestLine b.nearest) xs ys e2) in (
         shown_is a.model b.model a.vector b.vector a.nearest b.nearest (model_is a.model b.model model) (vector_is a.vector b.vector vector) (nearest_is a.nearest b.nearest nearest),
         rest_same (NearestLine a.nearest) (NearestLine b.nearest) xs ys e2,
@@ -108,7 +112,7 @@ module _ (s : Setting) where
   VerdictFit v = VerdictFits (length s.draft.atoms) (length s.draft.agents) v
 
   given_same : (q : ℕ) (a b : Bool) → item_line (VerdictLine q a) ≡ item_line (VerdictLine q b) → a ≡ b
-  given_same q a b e = given_is q a b (same_item due.Verdict (judging s due.Verdict q [] [] [] []) (VerdictLine q a) (VerdictLine q b) refl refl (a, refl) (b, refl) e)
+  given_same q a b e = given_is q a b (same_item due.Verdict (judging s due.Verdict q [] [] [] []) (VerdictLine q a) (VerdictLine q b) tt tt (a, refl) (b, refl) e)
 
   verdicts_same : (q : ℕ) (vs us : List Verdict) (xs ys : List Item) → length vs ≡ length us → AllByRecursion VerdictFit vs → AllByRecursion VerdictFit us
       → Same (verdict_items q vs ++ xs) (verdict_items q us ++ ys) → (vs ≡ us) × Same xs ys
@@ -149,7 +153,7 @@ module _ (s : Setting) where
       let y : Item = named_item (BaseOf i) b in
       let xs2 : List Item = base_items (i + 1) es ++ xs in
       let ys2 : List Item = base_items (i + 1) fs ++ ys in
-      let one = same_item due.Named (naming s due.Named i []) x y (named_other (BaseOf i) a) (named_other (BaseOf i) b) (base_due i a h.0) (base_due i b k.0) (first_same x y xs2 ys2 e) in
+      let one = same_item due.Named (naming s due.Named i []) x y (named_feed (BaseOf i) a) (named_feed (BaseOf i) b) (base_due i a h.0) (base_due i b k.0) (first_same x y xs2 ys2 e) in
       let r = entries_same (i + 1) es fs xs ys (omega (arith, n)) h.1 k.1 (rest_same x y xs2 ys2 e) in
       (cons_entries a b es fs (entry_is (BaseOf i) a b one) r.0, r.1)
 
@@ -175,15 +179,15 @@ module _ (s : Setting) where
   first_due (Inconsistent constraint agents) h = inr (inl (named_due due.Asks TheConstraint constraint h.0))
   first_due GaveUp h = inr (inr refl)
 
-  first_other : (a : Answer) → is_other (first_item a) ≡ true
-  first_other (Merged best measure verdicts) = refl
-  first_other (Inconsistent constraint agents) = named_other TheConstraint constraint
-  first_other GaveUp = refl
+  first_feed : (a : Answer) → HasNoFeed (first_item a)
+  first_feed (Merged best measure verdicts) = tt
+  first_feed (Inconsistent constraint agents) = named_feed TheConstraint constraint
+  first_feed GaveUp = tt
 
   first_of_same : (a b : Answer) (xs ys : List Item) → AnswerFits s a → AnswerFits s b → Same (answer_items a ++ xs) (answer_items b ++ ys) → first_item a ≡ first_item b
   first_of_same a b xs ys h k e =
       let f : Same (first_item a ∷ later_items a xs) (first_item b ∷ later_items b ys) = sym (ap (map item_line) (items_are a xs)) ∙ (e ∙ ap (map item_line) (items_are b ys)) in
-      same_item due.Asks (fresh s due.Asks) (first_item a) (first_item b) (first_other a) (first_other b) (inr (first_due a h)) (inr (first_due b k)) (first_same (first_item a) (first_item b) (later_items a xs) (later_items b ys) f)
+      same_item due.Asks (fresh s due.Asks) (first_item a) (first_item b) (first_feed a) (first_feed b) (inr (first_due a h)) (inr (first_due b k)) (first_same (first_item a) (first_item b) (later_items a xs) (later_items b ys) f)
 
   model_or_entry : (w : List Bool) (a : Option (List Bool)) → ModelLine w ≡ named_item TheConstraint a → ⊥
   model_or_entry w None e = absurd (cc)
@@ -201,7 +205,7 @@ module _ (s : Setting) where
       let o = shown_same a b (MeasureLine m ∷ x) (MeasureLine n ∷ y) h.0 k.0 e in
       let p : Position = judging s due.Measure 0 a.model a.vector a.vector [] in
       let size : length n ≡ length (rank_in s a.vector) = k.1 ∙ ap (λ (t : Shown). length (rank_in s t.vector)) (sym o.0) in
-      let measure = same_item due.Measure p (MeasureLine m) (MeasureLine n) refl refl (m, refl, h.1, recursion_from_All HasNumeral m h.2) (n, refl, size, recursion_from_All HasNumeral n k.2)
+      let measure = same_item due.Measure p (MeasureLine m) (MeasureLine n) tt tt (m, refl, h.1, recursion_from_All HasNumeral m h.2) (n, refl, size, recursion_from_All HasNumeral n k.2)
       (first_same (MeasureLine m) (MeasureLine n) x y o.1) in
       let r = verdicts_same 0 vs us xs ys (h.3 ∙ sym k.3) h.4 k.4 (rest_same (MeasureLine m) (MeasureLine n) x y o.1) in
       (merged_is a b m n vs us o.0 (measure_is m n measure) r.0, r.1)

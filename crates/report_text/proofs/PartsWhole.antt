@@ -36,7 +36,7 @@ use Rattle.report_lines.specs.Operators.{operator_named}
 use Rattle.report_lines.specs.Items.{Item, ProblemLine, item_line}
 use Rattle.report_lines.specs.Judged.{IsAccepted, EndsBy, pieces_of}
 use Rattle.report_lines.specs.Places.{conflict_limit}
-use Rattle.report_lines.specs.Parts.{Asked, operator_of, claims_of, kind_of_answer, answer_items, head_items, log_items, items_of, HasShownForm, HasVerdictForm, HasEntryForm, HasAnswerForm, HasForm, HasParts}
+use Rattle.report_lines.specs.Parts.{Asked, items_text, operator_of, claims_of, kind_of_answer, answer_items, head_items, log_items, items_of, HasShownForm, HasVerdictForm, HasEntryForm, HasAnswerForm, HasForm, HasParts}
 use Rattle.report_lines.proofs.ItemsLaw.{items_are}
 use Rattle.report_text.specs.PartsLaws.{BearsOut, IsBorneOut}
 use Rattle.report_text.proofs.PartsMain.{Tail}
@@ -44,6 +44,7 @@ use Rattle.report_text.proofs.PartsShown.{ShownFits, values_of}
 use Rattle.report_text.proofs.PartsVerdicts.{VerdictFits}
 use Rattle.report_text.proofs.PartsAnswer.{AnswerFits, WitnessedBy, Answered}
 use Rattle.report_text.proofs.PartsProblem.{Line, setting, ProblemRest}
+use Rattle.report_text.proofs.WrittenLog.{main_is}
 use Rattle.report_text.proofs.PartsHead.{HeadRest, head_rest, problem_rest}
 
 -- the text of lines
@@ -56,14 +57,12 @@ joined (l ∷ m ∷ ls) = ap (λ (text : List ℕ). l ++ (10 ∷ text)) (joined 
 text_is : (text : List ℕ) (ls : List Line) → pieces_of text ≡ ls ++ [] ∷ [] → text ≡ lines_text ls
 text_is text ls e = sym (join_with_byte-slice_split 10 text) ∙ (ap (join_with_byte 10) e ∙ joined ls)
 
+text_of : (text : List ℕ) (xs ys : List Item) → pieces_of text ≡ map item_line xs ++ [] ∷ [] → xs ≡ ys → text ≡ items_text ys
+text_of text xs ys e f = text_is text (map item_line xs) e ∙ ap items_text f
+
 not_empty : {A : Type 0} (xs : List A) → 1 ≤ length xs → xs ≢ []
 not_empty [] h e = omega arith
 not_empty (x ∷ xs) h e = cc
-
--- the main clauses by their names
-named_is : (distance : DistanceName) (aggregator : AggregatorName) (p : Profile) (asks : List Formula) → main_named distance aggregator p asks ≡ main_due (counter_named distance) (levels_named aggregator) p asks
-unfolding main_named
-named_is distance aggregator p asks = refl
 
 -- what bears out an answer of an accepted report
 abbrev pub TrueFor : DistanceName → AggregatorName → Type 0
@@ -164,7 +163,7 @@ HasPartsOf text k = (asked : Asked) × (r : Parts) × HasParts text asked r × (
 has_parts : TrueByNames → (text : List ℕ) (k : Kind) (xs : List Item) → pieces_of text ≡ map item_line xs ++ [] ∷ [] → EndsBy xs k → HasPartsOf text k
 has_parts law text k xs whole e =
     let end = e.place in
-    let h : HeadRest end xs = head_rest xs end e.run e.over in
+    let h : HeadRest end xs = head_rest end e.over xs e.run in
     let asked : Asked = h.asked in
     let p : ProblemRest end.kind asked [] h.rest = problem_rest asked end e.over h.rest h.run in
     let d : Draft = p.draft in
@@ -174,12 +173,12 @@ has_parts law text k xs whole e =
     let a : Answered end.kind (setting asked d) p.tail = p.answered in
     let t : Ends law asked d limits end.kind a.answer a.tail =
     subst (λ (m : MainDue). Tail end.kind m asked.conflicts (kind_of_answer a.answer) (claims_due (values_of (setting asked d)) a.answer) a.tail)
-    (named_is asked.distance asked.aggregator (profile_of (made d limits)) d.asks) a.is_tail in
+    (main_is asked.distance asked.aggregator (profile_of (made d limits)) d.asks) a.is_tail in
     let r : Parts = parts_with d limits a.answer t.steps t.shown in
     let items : xs ≡ items_of asked r = items_by law asked d limits end.kind a.answer xs h.rest p.tail a.tail p.more t h.items p.items a.items lines in (
       asked,
       r,
-      record { form = form_by law asked d limits end.kind a.answer a.tail t h.some h.few a.fits; spelled = text_is text (map item_line xs) whole ∙ ap (λ (ys : List Item). lines_text (map item_line ys)) items },
+      record { form = form_by law asked d limits end.kind a.answer a.tail t h.some h.few a.fits; spelled = text_of text xs (items_of asked r) whole items },
       sym t.ended ∙ sym e.answer,
       borne_by law asked d limits end.kind a.answer a.tail t a.witnessed,
     )
