@@ -1,1 +1,8 @@
+pub mod Front
 pub mod Judging
+pub mod WrittenLaws
+pub mod WritingItems
+pub mod PartsLaws
+pub mod Answering
+pub mod Judging
+pub mod Taking
