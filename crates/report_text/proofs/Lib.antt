@@ -12,3 +12,16 @@ pub mod FrontSaid
 pub mod FrontSteps
 pub mod WritingTexts
 pub mod WritingProofs
+pub mod PartsPlaces
+pub mod PartsLog
+pub mod PartsMain
+pub mod PartsShown
+pub mod PartsVerdicts
+pub mod PartsNamed
+pub mod PartsAnswer
+pub mod PartsProblem
+pub mod PartsHead
+pub mod PartsWhole
+pub mod PartsPlain
+pub mod PartsOnly
+pub mod PartsOne

@@ -2,3 +2,4 @@ pub mod Front
 pub mod Judging
 pub mod WrittenLaws
 pub mod WritingItems
+pub mod PartsLaws

@@ -3,10 +3,12 @@
 
 /// The lines before the answer.
 pub mod front;
+mod parts;
 /// Why a line does not lead on.
 pub mod stop;
 mod writing;
 mod written;
 
+pub use parts::{accepted_has_parts, one_parts};
 pub use writing::{write_answer, write_report};
 pub use written::written_is_accepted;
