@@ -35,3 +35,7 @@ not_over d p q e n over same =
 pub next : (d : Due) (p q : Position) (xs : List Item) → p.due ≡ d → is_over d ≡ false → q.due ≡ due.Over → Run p xs q → Next d p q xs
 next d p q [] e n over r = absurd (not_over d p q e n over r)
 next d p q (x ∷ xs) e n over r = record { item = x; rest = xs; place = r.0; whole = refl; of = subst (λ (k : Due). DueAt k p x) e r.1; leads = r.2; run = r.3 }
+
+-- a run's first item and the items after it are these
+pub first_is : (x y : Item) (xs ys zs : List Item) → xs ≡ x ∷ ys → x ≡ y → ys ≡ zs → xs ≡ y ∷ zs
+first_is x y xs ys zs e f g = cc

@@ -119,6 +119,9 @@ pub record Block (p : Position) (first : Bool) (w : List Bool) (q : Position) (x
   pub good : is_as_good p vector ≡ true
   pub run : Run (shown_place p first w vector) rest q
 
+two_items : (v n x y : Item) (xs ys zs : List Item) → xs ≡ v ∷ ys → v ≡ x → ys ≡ n ∷ zs → n ≡ y → xs ≡ x ∷ y ∷ zs
+two_items v n x y xs ys zs e f g h = cc
+
 pub shown_rest : (p q : Position) (first : Bool) (w : List Bool) (xs : List Item) → (p.verdicts == 0) ≡ first → IsOver p w → formulas.holds (profile_at p).constraint w ≡ true
     → Run (after p (ModelLine w)) xs q → q.due ≡ due.Over → Block p first w q xs
 shown_rest p q first w xs e size model r over =
@@ -134,8 +137,6 @@ shown_rest p q first w xs e size model r over =
     let ws : List (List Bool) = dn.0 in
     let ln : LeadsTo p2 (NearestLine ws) n.place = subst (λ (y : Item). LeadsTo p2 y n.place) dn.1 n.leads in
     let r3 : Run (after p2 (NearestLine ws)) n.rest q = subst (λ (m : Position). Run m n.rest q) ln.1 n.run in
-    let first : xs ≡ VectorLine ds ∷ v.rest = v.whole ∙ ap (λ (y : Item). y ∷ v.rest) dv.1 in
-    let second : v.rest ≡ NearestLine ws ∷ n.rest = n.whole ∙ ap (λ (y : Item). y ∷ n.rest) dn.1 in
     let bases : length (profile_at p).bases ≡ agents_at p = length-map p.draft.agents (λ (a : Agent). a.base) in
     let near = near_are (atoms_at p) (dist_named p.distance p.draft.atoms) w (profile_at p).bases ds ws (dv.2 ∙ sym bases) (dn.2 ∙ sym bases) dn.3 ln.0 in
     let within : list_all (λ d. nat_le d (top_at p)) ds ≡ true = and_left (list_all (λ d. nat_le d (top_at p)) ds) (is_as_good p ds) lv.0 in
@@ -143,7 +144,7 @@ shown_rest p q first w xs e size model r over =
       vector = ds;
       nearest = ws;
       rest = n.rest;
-      items = first ∙ ap (λ (ys : List Item). VectorLine ds ∷ ys) second;
+      items = two_items v.item n.item (VectorLine ds) (NearestLine ws) xs v.rest n.rest v.whole dv.1 n.whole dn.1;
       fits = record { model = size; entries = dv.2; numbers = All-from_recursion HasNumeral ds dv.3; nearest = dn.2; over = All-from_recursion (IsOver p) ws dn.3 };
       witness = record {
         model = record { size = size; true_there = model };

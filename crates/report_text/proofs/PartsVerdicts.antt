@@ -19,13 +19,13 @@ use Rattle.report_lines.specs.declared.kinds.Kind.{Kind}
 use Rattle.report_lines.specs.declared.kinds.Kind.TheVariants as kind
 use Rattle.report_lines.specs.ClaimsDue.{DueClaim, of_first, far_claims, verdict_claims}
 use Rattle.report_lines.specs.Accepted.{IsWitness, IsWitnessedVerdict}
-use Rattle.report_lines.specs.Items.{Item, ModelLine, VerdictLine}
+use Rattle.report_lines.specs.Items.{Item, ModelLine, VectorLine, NearestLine, VerdictLine}
 use Rattle.report_lines.specs.Places.{Position, DueAt}
 use Rattle.report_lines.specs.Holding.{breaks}
 use Rattle.report_lines.specs.Following.{LeadsTo, after}
 use Rattle.report_lines.specs.Judged.{Run}
 use Rattle.report_lines.specs.Parts.{shown_items, verdict_items}
-use Rattle.report_text.proofs.PartsPlaces.{Next, next}
+use Rattle.report_text.proofs.PartsPlaces.{Next, next, first_is}
 use Rattle.report_text.proofs.PartsMain.{Tail, main_rest}
 use Rattle.report_text.proofs.PartsShown.{Setting, profile_in, op_in, main_in, values_of, rank_in, ShownFits, shown_with, Block, shown_rest}
 
@@ -122,13 +122,13 @@ module _ (s : Setting) (best : List ℕ) where
   }
 
   -- no: the model is shown, and the next verdict
-  no_rest : (end : Position) (q : ℕ) (claims : List DueClaim) (f : Formula) (fs : List Formula) (shown : Shown) (xs : List Item) → ShownFits (length s.draft.atoms) (length s.draft.agents) shown
+  no_rest : (end : Position) (q : ℕ) (claims : List DueClaim) (f : Formula) (fs : List Formula) (shown : Shown) (xs rest : List Item) → xs ≡ shown_items shown ++ rest → ShownFits (length s.draft.atoms) (length s.draft.agents) shown
       → IsWitness (op_in s) (profile_in s) shown → rank_in s best ≡ rank_in s shown.vector → formulas.holds f shown.model ≡ false
-      → Rest end (q + 1) (claims ++ far_claims (q + 1) shown.model shown.vector) fs xs → Rest end q claims (f ∷ fs) (VerdictLine q false ∷ (shown_items shown ++ xs))
-  no_rest end q claims f fs shown xs fits witness good breaks_it r = record {
+      → Rest end (q + 1) (claims ++ far_claims (q + 1) shown.model shown.vector) fs rest → Rest end q claims (f ∷ fs) (VerdictLine q false ∷ xs)
+  no_rest end q claims f fs shown xs rest e fits witness good breaks_it r = record {
     verdicts = No shown ∷ r.verdicts;
     tail = r.tail;
-    items = ap (λ (ys : List Item). VerdictLine q false ∷ (shown_items shown ++ ys)) r.items;
+    items = ap (λ (ys : List Item). VerdictLine q false ∷ ys) (e ∙ ap (λ (ys : List Item). shown_items shown ++ ys) r.items);
     is_tail = subst (λ (cs : List DueClaim). Tail end.kind (main_in s) s.conflicts kind.Merged cs r.tail) (append_assoc claims (far_claims (q + 1) shown.model shown.vector) (verdict_claims (values_of s best) (q + 1) r.verdicts)) r.is_tail;
     judged = ((witness, good, breaks_it), r.judged);
     fits = (fits, r.fits);
@@ -163,9 +163,8 @@ module _ (s : Setting) (best : List ℕ) where
       let b : Block p false w end n.rest = shown_rest p end false w n.rest (more_not_zero q) d.2 is_model r2 over in
       let shown : Shown = shown_with w b.vector b.nearest in
       let more = again w b.vector (claims ++ far_claims (q + 1) w b.vector) b.rest b.run in
-      let whole : xs ≡ shown_items shown ++ b.rest = n.whole ∙ (ap (λ (y : Item). y ∷ n.rest) d.1 ∙ ap (λ (ys : List Item). ModelLine w ∷ ys) b.items) in
-      subst (λ (ys : List Item). Rest end q claims (f ∷ fs) (VerdictLine q false ∷ ys)) (sym whole)
-      (no_rest end q claims f fs shown b.rest b.fits b.witness (as_good q b.vector b.good) (broken q f w here breaks_it) more)
+      let whole : xs ≡ shown_items shown ++ b.rest = first_is n.item (ModelLine w) xs n.rest (VectorLine b.vector ∷ NearestLine b.nearest ∷ b.rest) n.whole d.1 b.items in
+      no_rest end q claims f fs shown xs b.rest whole b.fits b.witness (as_good q b.vector b.good) (broken q f w here breaks_it) more
 
   pub verdicts_rest : (asks : List Formula) (q : ℕ) (end : Position) → asks ≡ drop q s.draft.asks → end.due ≡ due.Over → AtVerdict q asks end
   verdicts_rest [] q end e over model vector claims xs r =
