@@ -64,7 +64,7 @@ own_problem (Merge d a b) p s text (gave_up status reports) =
 own_problem Check p s text row = absurd row
 
 own_checked : (read : List ℕ) (status : ℕ) (text : List ℕ) → CheckAnswers read status text → IsOwn status
-own_checked read s text (accepted k is status said) =
+own_checked read s text (accepted k is true status said) =
     record { not_words = λ e. omega arith; not_read = λ e. omega arith; not_written = λ e. omega arith; not_memory = λ e. omega arith }
 own_checked read s text (wrong line k is status said) =
     record { not_words = λ e. omega arith; not_read = λ e. omega arith; not_written = λ e. omega arith; not_memory = λ e. omega arith }
@@ -105,7 +105,7 @@ names_a_line fault same = let colon : 58 ≡ 32 = ap (λ (text : List ℕ). slic
 not_long : (command : Command) (read : List ℕ) (status : ℕ) (text : List ℕ) → TextAnswers command read status text → status ≡ 1 → text ≢ too_long_text
 not_long (Merge d a b) read s text (refused fault first status said) one = λ says. names_a_line fault (sym says ∙ said)
 not_long (Merge d a b) read s text (of_problem p spelled row) one = (not_refused (Merge d a b) p s text row one).0
-not_long Check read s text (accepted k is status said) one = absurd (omega arith)
+not_long Check read s text (accepted k is true status said) one = absurd (omega arith)
 not_long Check read s text (wrong line k is status said) one = absurd (omega arith)
 
 pub refused_comes : (words : List (List ℕ)) (now : Option (List ℕ)) (read : List ℕ) (status : ℕ) (text : List ℕ)

@@ -19,7 +19,7 @@ use Rattle.report_lines.proofs.Once.{once}
 use Rattle.merge_cli.specs.declared.commands.Command.{Command}
 use Rattle.merge_cli.specs.declared.commands.Command.TheVariants.{Check}
 use Rattle.merge_cli.specs.Commands.{IsCommand, IsNoCommand, merge_of, limit_of, Reads, ReadsProblem}
-use Rattle.merge_cli.specs.Check.{accepted_text, wrong_line_text, CheckAnswers, accepted, wrong}
+use Rattle.merge_cli.specs.Check.{accepted_text, wrong_line_text, IsTrueReport, CheckAnswers, accepted, wrong}
 use Rattle.merge_cli.specs.Merge.{MergeAnswers, ReportsMerge, ReportsLack, ReportsSpent, main_vars, merged, inconsistent, gave_up}
 use Rattle.merge_cli.specs.Refusals.{refusal_text, too_long_text}
 use Rattle.merge_cli.specs.Rows.{ReadAnswers, too_long, of_text, refused, of_problem}
@@ -92,17 +92,17 @@ problem_of_row command now read s text reads (of_text end few row) other =
 -- what `check` answers
 accepted_row : (bytes : List ℕ) (status : ℕ) (text : List ℕ) (k : Kind) → CheckAnswers bytes status text → IsAccepted bytes k
     → (status ≡ 0) × (text ≡ accepted_text k)
-accepted_row bytes s text k (accepted l is status said) right = (status, said ∙ ap (λ (m : Kind). accepted_text m) (one_kind bytes l k is right))
+accepted_row bytes s text k (accepted l is true status said) right = (status, said ∙ ap (λ (m : Kind). accepted_text m) (one_kind bytes l k is right))
 accepted_row bytes s text k (wrong line l is status said) right = absurd (never bytes k line l right is)
 
 accepted_only_row : (bytes : List ℕ) (status : ℕ) (text : List ℕ) (k : Kind) → CheckAnswers bytes status text → status ≡ 0 → text ≡ accepted_text k
     → IsAccepted bytes k
-accepted_only_row bytes s text k (accepted l is status said) none says = subst (λ (m : Kind). IsAccepted bytes m) (same_kind l k (sym said ∙ says)) is
+accepted_only_row bytes s text k (accepted l is true status said) none says = subst (λ (m : Kind). IsAccepted bytes m) (same_kind l k (sym said ∙ says)) is
 accepted_only_row bytes s text k (wrong line l is status said) none says = absurd (omega arith)
 
 wrong_row : (bytes : List ℕ) (status : ℕ) (text : List ℕ) (line : ℕ) (k : RefusedKind) → CheckAnswers bytes status text → IsFirstWrong bytes line k
     → (status ≡ 7) × (text ≡ wrong_line_text line k)
-wrong_row bytes s text line k (accepted l is status said) first = absurd (never bytes l line k is first)
+wrong_row bytes s text line k (accepted l is true status said) first = absurd (never bytes l line k is first)
 wrong_row bytes s text line k (wrong other l is status said) first =
     let same = once bytes other line l k is first in
     (status, said ∙ ap (λ (n : ℕ). wrong_line_text n l) same.0 ∙ ap (λ (m : RefusedKind). wrong_line_text line m) same.1)
@@ -223,10 +223,16 @@ module _ (words : List (List ℕ)) (before now : Option (List ℕ)) (room_before
     accepted_row bytes status text k (told_check_run bytes asks),
   )
 
+  pub checked_true_run : (bytes : List ℕ) → AsksCheck before words bytes → status ≡ 0 → (k : Kind) × (text ≡ accepted_text k) × IsTrueReport bytes k
+  checked_true_run bytes asks none = elim (told_check_run bytes asks) [
+    | accepted k is true one said ↦ (k, said, true)
+    | wrong line l is one said ↦ absurd (omega arith)
+  ]
+
   pub refused_report_only_run : (bytes : List ℕ) → AsksCheck before words bytes → status ≡ 7
       → (line : ℕ) × (k : RefusedKind) × IsFirstWrong bytes line k × (text ≡ wrong_line_text line k)
   refused_report_only_run bytes asks seven = elim (told_check_run bytes asks) [
-    | accepted l is one said ↦ absurd (omega arith)
+    | accepted l is true one said ↦ absurd (omega arith)
     | wrong line l is one said ↦ (line, l, is, said)
   ]
 

@@ -8,7 +8,7 @@ ghost use Rattle.merge_cli.specs.Answers.{Answers, Answered, CommandAnswers, Tex
 ghost use Rattle.merge_cli.specs.Answers.{ProblemAnswers, IsReading, IsUnread, IsTooMuch};
 ghost use Rattle.merge_cli.specs.Answers.{AsksText, AsksProblem};
 ghost use Rattle.merge_cli.specs.Answers.{AsksCheck};
-ghost use Rattle.merge_cli.specs.Check.{CheckAnswers, accepted_text, wrong_line_text};
+ghost use Rattle.merge_cli.specs.Check.{CheckAnswers, IsTrueReport, accepted_text, wrong_line_text};
 ghost use Rattle.merge_cli.specs.Merge.{MergeAnswers, ReportsMerge, ReportsLack, ReportsSpent};
 ghost use Rattle.merge_cli.specs.Merge.{main_vars};
 ghost use Rattle.merge_cli.specs.Commands.{merge_of};
@@ -181,6 +181,9 @@ pub fn run<S: Source, K: Sink>(
         → result.status ≢ 4 → result.status ≢ 5 → result.status ≢ 6 → (kind : Kind)
         → ((result.status ≡ 0) × (result.text.items ≡ accepted_text kind))
         ↔ IsAccepted bytes kind }
+    ensures checked_true { (bytes : List ℕ) → AsksCheck (S.left source.old) words.now bytes
+        → result.status ≡ 0 → (kind : Kind) × (result.text.items ≡ accepted_text kind)
+        × IsTrueReport bytes kind }
     ensures refused_report { (bytes : List ℕ) → AsksCheck (S.left source.old) words.now bytes
         → result.status ≢ 4 → result.status ≢ 5 → result.status ≢ 6
         → (line : ℕ) (kind : RefusedKind) → IsFirstWrong bytes line kind

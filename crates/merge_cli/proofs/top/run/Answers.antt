@@ -1,7 +1,7 @@
 use Rattle.std.proofs.Common.{inl, inr, refl}
 use Rattle.merge_cli.proofs.Reported.{is_reported}
 use Rattle.merge_cli.proofs.Laws.{no_stop}
-use Rattle.merge_cli.proofs.Told.{refused_words_run, too_long_run, at_end_run, told_run, refused_run, refused_only_run, problem_run, lacking_run, not_merged_run, merged_run, inconsistent_run, gave_up_run, ample_run, reported_run, accepted_run, told_check_run, checked_run, refused_report_run, refused_report_only_run}
+use Rattle.merge_cli.proofs.Told.{refused_words_run, too_long_run, at_end_run, told_run, refused_run, refused_only_run, problem_run, lacking_run, not_merged_run, merged_run, inconsistent_run, gave_up_run, ample_run, reported_run, accepted_run, told_check_run, checked_run, checked_true_run, refused_report_run, refused_report_only_run}
 use Rattle.merge_cli.proofs.top.run.Goals as goal
 
 pub returns-in-Ok-send_all-clause-read_fault : goal.returns-in-Ok-send_all-clause-read_fault
@@ -71,6 +71,9 @@ returns-in-Ok-send_all-clause-told_check g c = λ bytes asks four five six. told
 
 pub returns-in-Ok-send_all-clause-checked : goal.returns-in-Ok-send_all-clause-checked
 returns-in-Ok-send_all-clause-checked g c = λ bytes asks four five six k. checked_run _ _ _ _ _ _ _ c.in-Ok.ensures.ok bytes asks k
+
+pub returns-in-Ok-send_all-clause-checked_true : goal.returns-in-Ok-send_all-clause-checked_true
+returns-in-Ok-send_all-clause-checked_true g c = checked_true_run _ _ _ _ _ _ _ c.in-Ok.ensures.ok
 
 pub returns-in-Ok-send_all-clause-refused_report : goal.returns-in-Ok-send_all-clause-refused_report
 returns-in-Ok-send_all-clause-refused_report g c = λ bytes asks four five six line k first. refused_report_run _ _ _ _ _ _ _ c.in-Ok.ensures.ok bytes asks line k first
