@@ -1,5 +1,5 @@
 -- Clauses that include others.
-use Rattle.std.proofs.Common.{◌≡◌, ℕ, zero, suc, ◌≤◌, Bool, true, false, List, [], ◌∷◌, refl, ap, sym, ◌∙◌, subst, arith, inl, inr}
+use Rattle.std.proofs.Common.{◌≡◌, ℕ, zero, suc, ◌<◌, ◌≤◌, ◌-◌, length, Bool, true, false, List, [], ◌∷◌, refl, ap, sym, ◌∙◌, subst, arith, inl, inr}
 use Rattle.std.specs.Prelude.{Contains, ◌⊎◌, ◌||◌, None, Some, slice_get}
 use Rattle.std.specs.List.{list_any}
 use Rattle.std.proofs.lemmas.Bool.Decides.{nat_tests}
@@ -70,10 +70,17 @@ none_has p (y ∷ xs) h = first_none (p y) (list_any p xs) (λ e. h y (zero, ome
     first_none true b n e = absurd (n refl)
     first_none false b n e = e
 
-pub none_first : (c : List Lit) → None ≡ slice_get c 0 → c ≡ []
-none_first [] e = refl
-none_first (x ∷ xs) e = absurd (cc)
+pub at_has : (c : List Lit) (k : ℕ) (l : Lit) → Some l ≡ slice_get c k → has l c ≡ true
+at_has [] k l e = absurd (cc)
+at_has (m ∷ c) zero l e = or_left (same_lit l m) (has l c) (self l m (let one : m ≡ l = cc in one))
+at_has (m ∷ c) (suc k) l e = or_right (same_lit l m) (has l c) (at_has c k l e)
 
-pub some_first : (c : List Lit) (l : Lit) → Some l ≡ slice_get c 0 → (ls : List Lit) × (c ≡ l ∷ ls)
-some_first [] l e = absurd (cc)
-some_first (x ∷ xs) l e = (xs, (let same : x ≡ l = cc in ap (λ (m : Lit). m ∷ xs) same))
+none_at : (c : List Lit) (k : ℕ) → None ≡ slice_get c k → k < length c → ⊥
+none_at [] k e lt = omega arith
+none_at (m ∷ c) zero e lt = absurd (cc)
+none_at (m ∷ c) (suc k) e lt = none_at c k e (omega arith)
+
+-- a clause without a last literal is empty
+pub none_last : (c : List Lit) → None ≡ slice_get c (length c - 1) → c ≡ []
+none_last [] e = refl
+none_last (m ∷ c) e = absurd (none_at (m ∷ c) (length (m ∷ c) - 1) e (omega arith))

@@ -16,7 +16,7 @@ use Rattle.watch_lists.proofs.Walks.{rank_lt}
 use Rattle.log_lines.specs.Spending.{includes}
 use Rattle.log_lines.specs.declared.index.Index.{Index}
 use Rattle.log_lines.specs.Indexes.{IsIndexed, IsIndexOf, IsPlaced, IsEmptied}
-use Rattle.log_lines.proofs.Included.{contains_has, has_within, included, any_has, none_has}
+use Rattle.log_lines.proofs.Included.{has_within, included, any_has, none_has}
 
 -- the number of the clause hangs loose
 pub record IsLoose (known : List (List Lit)) (loose : List ℕ) (clause : List Lit) : Type 0 where
@@ -188,15 +188,16 @@ index_more heads next empty known before bound more lists h le = record {
   flag = h.flag;
 }
 
-not_empty : (l : Lit) (ls : List Lit) → Contains ((l ∷ ls) ∷ []) [] → ⊥
-not_empty l ls (zero, h, e) = absurd (cc)
-not_empty l ls (suc k, h, e) = omega arith
+not_empty : (l : Lit) (clause : List Lit) → has l clause ≡ true → Contains (clause ∷ []) [] → ⊥
+not_empty l clause own o =
+    let none : has l [] ≡ true = subst (λ (c : List Lit). has l c ≡ true) (only clause [] o) own in
+    absurd (cc)
 
 -- a clause joins them
-pub index_add : (heads next : List ℕ) (empty : Bool) (known : Clauses) (before : List (List Lit)) (number : ℕ) (lists : List (List ℕ)) (m : Lit) (ms : List Lit)
-    → IsIndexed heads next empty known before number lists → clause_at known.list number ≡ m ∷ ms → rank_of m < length heads → number < length next
+pub index_add : (heads next : List ℕ) (empty : Bool) (known : Clauses) (before : List (List Lit)) (number : ℕ) (lists : List (List ℕ)) (m : Lit)
+    → IsIndexed heads next empty known before number lists → has m (clause_at known.list number) ≡ true → rank_of m < length heads → number < length next
     → IsIndexed (set heads (rank_of m) number) (set next number (get_or heads (rank_of m) 0)) empty known (before ++ clause_at known.list number ∷ []) (number + 1) (set lists (rank_of m) (number ∷ list_at lists (rank_of m)))
-index_add heads next empty known before number lists m ms h is lt ln =
+index_add heads next empty known before number lists m h own lt ln =
     let at = rank_of m in
     let ll : at < length lists = omega (arith, h.chains.lengths) in
     let last = clause_at known.list number ∷ [] in
@@ -221,14 +222,14 @@ index_add heads next empty known before number lists m ms h is lt ln =
             record {
               lit = m;
               number = number;
-              own = subst (λ (k : List Lit). has m k ≡ true) (sym is ∙ value) (contains_has m (m ∷ ms) (zero, omega arith, refl));
+              own = subst (λ (k : List Lit). has m k ≡ true) value own;
               row = pushed_new lists at number ll;
               value = value;
             })
       ];
       flagged = λ c. elim (Contains-append_cases before last [] c) [
         | inl o ↦ h.flagged o
-        | inr o ↦ absurd (not_empty m ms (subst (λ (k : List Lit). Contains (k ∷ []) []) is o))
+        | inr o ↦ absurd (not_empty m (clause_at known.list number) own o)
       ];
       flag = λ e. Contains-append_left before last [] (h.flag e);
     }
@@ -356,13 +357,12 @@ module _ (heads next : List ℕ) (empty : Bool) (known : Clauses) (before : List
       → (after : List (List ℕ)) × IsIndexed heads next empty known before bound after × IsEmptied clause lit start after
   round_over r e = (r.0, round_end heads next empty known before bound clause lit start first turn r.0 r.1 r.2 e, r.2.emptied)
 
-pub index_joined : (heads next : List ℕ) (empty : Bool) (known : Clauses) (before : List (List Lit)) (number : ℕ) (lists : List (List ℕ)) (m : Lit) (ms : List Lit) (heads' next' : List ℕ) (empty' : Bool) (row : ℕ)
-    → IsIndexed heads next empty known before number lists → (clause : List Lit) → InRange known.vars clause → number < length known.list → clause_at known.list number ≡ clause → clause ≡ m ∷ ms → row ≡ rank_of m
+pub index_joined : (heads next : List ℕ) (empty : Bool) (known : Clauses) (before : List (List Lit)) (number : ℕ) (lists : List (List ℕ)) (m : Lit) (heads' next' : List ℕ) (empty' : Bool) (row : ℕ)
+    → IsIndexed heads next empty known before number lists → (clause : List Lit) → InRange known.vars clause → number < length known.list → clause_at known.list number ≡ clause → has m clause ≡ true → row ≡ rank_of m
     → heads' ≡ set heads row number → next' ≡ set next number (get_or heads row 0) → empty' ≡ empty
     → (after : List (List ℕ)) × IsIndexed heads' next' empty' known (before ++ clause_at known.list number ∷ []) (number + 1) after
-index_joined heads next empty known before number lists m ms heads' next' empty' row h clause range lt value is same eh en ee =
-    let own : has m clause ≡ true = subst (λ (c : List Lit). has m c ≡ true) (sym is) (contains_has m (m ∷ ms) (zero, omega arith, refl)) in
+index_joined heads next empty known before number lists m heads' next' empty' row h clause range lt value own same eh en ee =
     let low = rank_lt m known.vars (has_within m clause known.vars own range) in
     let step : (after : List (List ℕ)) × IsIndexed (set heads (rank_of m) number) (set next number (get_or heads (rank_of m) 0)) empty known (before ++ clause_at known.list number ∷ []) (number + 1) after =
-    (_, index_add heads next empty known before number lists m ms h (value ∙ is) (omega (arith, low, h.all_heads)) (omega (arith, lt, h.all_next))) in
+    (_, index_add heads next empty known before number lists m h (ap (has m) value ∙ own) (omega (arith, low, h.all_heads)) (omega (arith, lt, h.all_next))) in
     rw (eh, en, ee, same) step

@@ -56,14 +56,15 @@ impl Index {
         })
     }
 
-    /// The clause of a number joins them, which is above theirs.
+    /// The clause of a number joins them, which is above theirs. Many clauses share their first literals, and few their
+    /// last.
     pub fn add(&mut self, known: &ClauseList, number: u64)
         requires index { IsAnIndex self.old known.now }
         requires number { number < length known.now.list }
         ensures { (before : List (List Literal)) → IsIndexOf self.old known.now before number →
             IsIndexOf self.new known.now (before ++ clause_at known.now.list number ∷ []) (number + 1) }
     {
-        match known.clause(number).first() {
+        match known.clause(number).last() {
             None => self.empty = true,
             Some(lit) => self.push(lit.rank() as usize, number as u32),
         }

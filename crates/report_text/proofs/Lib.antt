@@ -24,3 +24,9 @@ pub mod PartsHead
 pub mod PartsWhole
 pub mod PartsOnly
 pub mod PartsOne
+pub mod Claiming
+pub mod FirstWords
+pub mod Properness
+pub mod Ranking
+pub mod Rows
+pub mod Unions

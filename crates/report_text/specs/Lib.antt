@@ -3,3 +3,6 @@ pub mod Judging
 pub mod WrittenLaws
 pub mod WritingItems
 pub mod PartsLaws
+pub mod Answering
+pub mod Judging
+pub mod Taking
