@@ -16,7 +16,7 @@ use Rattle.report_lines.specs.declared.kinds.Due.{Due}
 use Rattle.report_lines.specs.declared.kinds.Due.TheVariants as due
 use Rattle.report_lines.specs.Items.{Item, HeadLine, DistanceLine, AggregatorLine, ConflictsLine, ProblemLine}
 use Rattle.report_lines.specs.Places.{Position, DueAt, start, conflict_limit}
-use Rattle.report_lines.specs.Following.{LeadsTo, after, after_said}
+use Rattle.report_lines.specs.Following.{LeadsTo, after_said}
 use Rattle.report_lines.specs.Judged.{Run}
 use Rattle.report_lines.specs.Parts.{Asked, head_items}
 use Rattle.report_text.proofs.PartsPlaces.{Next, next, first_is}

@@ -1,13 +1,11 @@
 -- A text has the parts of at most one report.
-use Rattle.std.proofs.Common.{◌≡◌, ℕ, ◌+◌, ◌<◌, ◌==◌, ◌||◌, Bool, true, false, inl, List, [], ◌∷◌, ◌++◌, length, map, Option, None, Some, ◌≤◌, refl, ap, sym, subst, ◌∙◌, append_assoc, arith}
-use Rattle.std.specs.Prelude.{◌^◌}
+use Rattle.std.proofs.Common.{◌≡◌, ℕ, ◌+◌, ◌<◌, ◌==◌, ◌||◌, Bool, true, false, inl, List, [], ◌∷◌, ◌++◌, length, map, Option, None, Some, refl, ap, sym, subst, ◌∙◌, append_assoc, arith}
 use Rattle.std.specs.List.{AllByRecursion, list_all}
 use Rattle.std.proofs.lemmas.List.{append_cancel_right, map-append}
 use Rattle.std.proofs.lemmas.List.Elements.{recursion_from_All}
 use Rattle.std.proofs.lemmas.List.Folds.{list_all-append}
 use Rattle.clause_store.proofs.Each.{each_append}
 use Rattle.clause_store.proofs.Truths.{and_left, and_right, and_both}
-use Rattle.clause_store.specs.declared.lit.Lit.{Lit}
 use Rattle.formulas.specs.declared.formula.Formula.{Formula}
 use Rattle.formulas.specs.Names.{names_of}
 use Rattle.merge_model.specs.declared.agent.Agent.{Agent}
@@ -26,21 +24,19 @@ use Rattle.problem_laws.specs.Sameness.{SameProblem}
 use Rattle.problem_laws.proofs.CanonicalText.{canonical_spelled}
 use Rattle.problem_laws.proofs.TextLaws.{one_problem}
 use Rattle.profile_text.specs.ProblemText.{agent_line, ask_line, problem_lines, problem_text, lines_text}
-use Rattle.report_words.specs.Numbers.{HasNumeral, IsLiteral}
+use Rattle.report_words.specs.Numbers.{HasNumeral}
 use Rattle.report_words.proofs.Spelling.{line_of_words}
-use Rattle.derivation_log.specs.declared.step.Link.{Link}
 use Rattle.derivation_log.specs.declared.step.Step.{Step}
-use Rattle.derivation_log.specs.StepLines.{StepLine, IsStep, IsLink, HasLine, step_line, widen, widen_link}
+use Rattle.derivation_log.specs.StepLines.{StepLine, step_line}
 use Rattle.log_lines.specs.Taking.{narrow_step}
 use Rattle.log_lines.proofs.Narrow.{narrow_is}
 use Rattle.report_lines.specs.declared.kinds.Due.TheVariants as due
 use Rattle.report_lines.specs.ClaimsDue.{DueClaim, claims_due}
 use Rattle.report_lines.specs.Accepted.{Parts}
-use Rattle.report_lines.specs.Items.{Item, HeadLine, DistanceLine, AggregatorLine, ConflictsLine, ProblemLine, ModelLine, VectorLine, NearestLine, MeasureLine, VerdictLine, NoModelLine, HasModelLine, GaveUpLine, MainLine, LogLine, ShownLine, EndLine, item_line}
+use Rattle.report_lines.specs.Items.{Item, HeadLine, DistanceLine, AggregatorLine, ConflictsLine, ProblemLine, MainLine, LogLine, ShownLine, EndLine, item_line}
 use Rattle.report_lines.specs.Judged.{pieces_of}
 use Rattle.report_lines.specs.Places.{start, end_number}
-use Rattle.report_lines.specs.Parts.{Asked, items_text, kind_of_answer, shown_items, verdict_items, named_item, base_items, answer_items, step_items, shown_claims, head_items, log_items, items_of, report_text, HasVerdictForm, HasShownForm, HasEntryForm, HasAnswerForm, HaveLines, HasForm, HasParts}
-use Rattle.report_lines.specs.declared.kinds.Subject.{Subject}
+use Rattle.report_lines.specs.Parts.{Asked, items_text, kind_of_answer, verdict_items, named_item, base_items, answer_items, step_items, shown_claims, head_items, log_items, items_of, report_text, HasVerdictForm, HasShownForm, HasEntryForm, HasAnswerForm, HaveLines, HasForm, HasParts}
 use Rattle.report_lines.specs.declared.kinds.Subject.TheVariants.{TheConstraint, BaseOf}
 use Rattle.report_text.specs.PartsLaws.{AreSame}
 use Rattle.report_text.proofs.PartsLog.{stored}

@@ -18,9 +18,7 @@ use Rattle.merge_model.specs.declared.operator.DistanceName.TheVariants.{Drastic
 use Rattle.merge_model.specs.declared.problem.Problem.{Problem}
 use Rattle.merge_model.specs.Answers.{dist_named, rank_named, profile_of, IsRight, IsNamed}
 use Rattle.merge_model.specs.Limits.{KeepsLimits}
-use Rattle.merge_model.specs.Merging.{Profile}
-use Rattle.merge_encoding.specs.MainDues.{MainDue, main_due}
-use Rattle.merge_encoding.specs.Named.{counter_named, levels_named, main_named}
+use Rattle.merge_encoding.specs.MainDues.{MainDue}
 use Rattle.merge_encoding.specs.Assumptions.{assumed}
 use Rattle.derivation_log.specs.declared.step.Step.{Step}
 use Rattle.profile_text.specs.ProblemText.{problem_lines, lines_text}
