@@ -15,7 +15,7 @@ use Rattle.problem_reading.specs.Spelling.{Spelled, StopsText}
 use Rattle.report_lines.specs.declared.report.Report.{Report}
 use Rattle.report_lines.specs.Parts.{Asked, HasForm, report_text}
 use Rattle.report_lines.specs.Reports.{asked_in, parts_in}
-use Rattle.merge_cli.specs.StandIn.{IsBorneOutBy, IsTruthfulBy}
+use Rattle.merge_reports.specs.BorneOut.{IsBorneOutBy, IsTruthfulBy}
 use Rattle.merge_cli.specs.declared.reply.Reply.{Reply}
 use Rattle.merge_cli.specs.Merge.{MergeAnswers, status_of, merged, inconsistent, gave_up}
 use Rattle.merge_cli.specs.Refusals.{SaysStop}

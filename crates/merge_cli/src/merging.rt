@@ -3,10 +3,10 @@ ghost use Rattle.merge_cli.specs.Commands.{IsBudget};
 ghost use Rattle.merge_cli.specs.Merge.{MergeAnswers, status_of};
 
 use crate::reply::Reply;
-use crate::standin::report_on;
 use crate::status::{ANSWERED, GAVE_UP, LACKS_MODEL};
 use edge::NoMemory;
 use merge_model::{AggregatorName, Answer, DistanceName, Problem};
+use merge_reports::report_on;
 use report_text::write_report;
 use std::alloc::Global;
 
