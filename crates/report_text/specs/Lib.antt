@@ -4,5 +4,4 @@ pub mod WrittenLaws
 pub mod WritingItems
 pub mod PartsLaws
 pub mod Answering
-pub mod Judging
 pub mod Taking
