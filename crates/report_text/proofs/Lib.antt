@@ -1,3 +1,6 @@
+pub mod Claiming
 pub mod FrontJudged
 pub mod FrontSaid
 pub mod FrontSteps
+pub mod Properness
+pub mod Unions

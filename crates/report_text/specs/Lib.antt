@@ -1,2 +1,4 @@
+pub mod Answering
 pub mod Front
 pub mod Judging
+pub mod Taking

@@ -1,6 +1,8 @@
 //! Reports as texts: written from what a search found, and checked line by line by whoever reads them.
 #![tactic(auto)]
 
+/// What the answer of a report says.
+pub mod answering;
 /// The lines before the answer.
 pub mod front;
 /// Why a line does not lead on.
