@@ -1,4 +1,5 @@
 pub mod Answering
 pub mod Front
 pub mod Judging
+pub mod Logging
 pub mod Taking

@@ -5,5 +5,7 @@
 pub mod answering;
 /// The lines before the answer.
 pub mod front;
+/// The log of a report, its proofs and its end.
+pub mod logging;
 /// Why a line does not lead on.
 pub mod stop;
