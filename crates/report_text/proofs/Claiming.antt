@@ -1,11 +1,15 @@
 -- Claims that are taken are proper.
-use Rattle.std.proofs.Common.{◌≡◌, ℕ, zero, suc, ◌+◌, ◌<◌, ◌≤◌, Bool, List, [], ◌∷◌, ◌++◌, length, map, refl, sym, subst, ◌∙◌, arith, All}
+use Rattle.std.proofs.Common.{◌≡◌, ℕ, zero, suc, ◌+◌, ◌<◌, ◌≤◌, Bool, List, [], ◌∷◌, ◌++◌, length, map, sym, ap, subst, ◌∙◌, arith, All}
 use Rattle.std.specs.Prelude.{slice_index}
+use Rattle.std.proofs.lemmas.List.{map-append}
 use Rattle.std.proofs.lemmas.List.Elements.{All-nil, All-cons, All-append}
-use Rattle.merge_encoding.specs.Claims.{NoNearer, NoBetter}
-use Rattle.report_lines.specs.ClaimsDue.{DueClaim, of_first, far_claims, least_claims, numbered}
+use Rattle.merge_encoding.specs.Claims.{Assertion, NoNearer, NoBetter, said}
+use Rattle.report_lines.specs.declared.kinds.Subject.{Subject}
+use Rattle.report_lines.specs.declared.kinds.Subject.TheVariants.{TheConstraint, BaseOf}
+use Rattle.report_lines.specs.ClaimsDue.{DueClaim, of_first, far_claims, least_claims, lack_of, numbered}
 use Rattle.report_lines.specs.Places.{Position, atoms_at, values_at}
-use Rattle.report_text.specs.Answering.{IsProperAt, IsVectorAt}
+use Rattle.report_text.specs.declared.answering.claims.Claimed.{Claimed}
+use Rattle.report_text.specs.Answering.{due_claim, IsProperAt, IsSubjectAt, IsVectorAt}
 
 numbered_all : (P : DueClaim → Type 0) (claim : ℕ → ℕ → DueClaim) (i : ℕ) (ks : List ℕ) → ((j : ℕ) → j < length ks → 1 ≤ slice_index ks j → P (claim (i + j) (slice_index ks j))) → All P (numbered claim i ks)
 numbered_all P claim i [] h = All-nil P
@@ -33,3 +37,17 @@ least_proper p values fits is =
 -- with those before
 pub more_proper : (p : Position) (before more all : List DueClaim) → all ≡ before ++ more → All (IsProperDue p) before → All (IsProperDue p) more → All (IsProperDue p) all
 more_proper p before more all e old new = subst (All (IsProperDue p)) (sym e) (All-append (IsProperDue p) before more old new)
+
+pub lack_proper : (p : Position) (s : Subject) → IsSubjectAt p s → IsProperAt p (lack_of s)
+lack_proper p TheConstraint h = tt
+lack_proper p (BaseOf i) h = h
+
+-- with one more
+pub pushed_proper : (p : Position) (old new : List Claimed) (c : Claimed) (x : Assertion) → new ≡ old ++ c ∷ [] → said c.says ≡ x → All (IsProperDue p) (map due_claim old) → IsProperAt p x → All (IsProperDue p) (map due_claim new)
+pushed_proper p old new c x e is before h =
+    more_proper p (map due_claim old) (due_claim c ∷ []) (map due_claim new) (ap (map due_claim) e ∙ map-append due_claim old (c ∷ [])) before
+    (All-cons (IsProperDue p) (due_claim c) [] (subst (IsProperAt p) (sym is) h) (All-nil (IsProperDue p)))
+
+-- with some more
+pub added_proper : (p : Position) (old more new : List Claimed) → new ≡ old ++ more → All (IsProperDue p) (map due_claim old) → All (IsProperDue p) (map due_claim more) → All (IsProperDue p) (map due_claim new)
+added_proper p old more new e before after = more_proper p (map due_claim old) (map due_claim more) (map due_claim new) (ap (map due_claim) e ∙ map-append due_claim old more) before after

@@ -1,7 +1,10 @@
 pub mod Claiming
+pub mod FirstWords
 pub mod FrontJudged
 pub mod FrontSaid
 pub mod FrontSteps
 pub mod LoggingFacts
 pub mod Properness
+pub mod Ranking
+pub mod Rows
 pub mod Unions

@@ -1,13 +1,14 @@
 -- A judgement on some of the lines that are due is one on all of them.
-use Rattle.std.proofs.Common.{◌≡◌, ◌≢◌, ℕ, true, false, List, ◌∷◌, codes, refl, sym, ap, subst, ◌∙◌, ◌⊎◌, inl, inr, Result, Ok, Err}
+use Rattle.std.proofs.Common.{◌≡◌, ◌≢◌, ℕ, true, false, List, refl, sym, subst, ◌⊎◌, inl, inr, Result, Ok, Err}
 use Rattle.report_words.specs.Words.{words_of}
 use Rattle.report_lines.specs.declared.kinds.Due.{Due}
+use Rattle.report_lines.specs.declared.kinds.Due.TheVariants as due
 use Rattle.report_lines.specs.declared.kinds.RefusedKind.{RefusedKind}
 use Rattle.report_lines.specs.Following.{LeadsTo, Fails, after}
 use Rattle.report_lines.specs.Holding.{holds}
 use Rattle.report_lines.specs.Items.{Item, item_words}
-use Rattle.report_lines.specs.Judged.{IsRightAs, IsWrongAs, absent, faulty}
-use Rattle.report_lines.specs.Places.{Position}
+use Rattle.report_lines.specs.Judged.{IsWrongAs, absent, faulty}
+use Rattle.report_lines.specs.Places.{Position, IsAnswerLine}
 use Rattle.report_text.specs.declared.stop.LineStop.{LineStop}
 use Rattle.report_text.specs.declared.stop.LineStop.TheVariants as stops
 use Rattle.report_text.specs.Answering.{AnswerAt}
@@ -51,3 +52,9 @@ pub at_place : {X : Type 0} (place : Position) (d : Due) (line : List ℕ) (stan
     (p : Position) → p ≡ place → JudgedAs (AnswerAt p.due p) p line stands r
 at_place place d line stands r e h p same =
     subst (λ (q : Position). JudgedAs (AnswerAt q.due q) q line stands r) (sym same) (subst (λ (k : Due). JudgedAs (AnswerAt k place) place line stands r) (sym e) h)
+
+-- at the first line of an answer
+pub at_first : {X : Type 0} (place : Position) (line : List ℕ) (stands : Position → Type 0) (r : Result X LineStop) → (place.due ≡ due.Agents) ⊎ (place.due ≡ due.Asks) → JudgedAs (IsAnswerLine place) place line stands r →
+    (p : Position) → p ≡ place → JudgedAs (AnswerAt p.due p) p line stands r
+at_first place line stands r (inl e) h p same = at_place place due.Agents line stands r e h p same
+at_first place line stands r (inr e) h p same = at_place place due.Asks line stands r e h p same

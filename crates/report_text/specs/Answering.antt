@@ -1,5 +1,5 @@
 -- The state of a checker while it reads an answer, and what it hands on to the log.
-use Rattle.std.specs.Prelude.{◌≡◌, ℕ, ◌+◌, ◌<◌, ◌≤◌, ◌⊎◌, List, [], length, map, All, Some, slice_index}
+use Rattle.std.specs.Prelude.{◌≡◌, ℕ, ◌<◌, ◌≤◌, ◌⊎◌, List, [], length, map, All, Some, slice_index}
 use Rattle.merge_model.specs.declared.problem.Problem.{Problem}
 use Rattle.merge_encoding.specs.Assumptions.{IsProper}
 use Rattle.merge_encoding.specs.Claims.{Assertion, NoModelOfConstraint, NoModelOfBase, NoNearer, NoBetter, NoBreaker, NoModelWith, said}

@@ -12,13 +12,12 @@ mod plain;
 mod shown;
 mod verdicts;
 
-pub use claims::Claimed;
-
 use crate::stop::LineStop;
+pub use claims::Claimed;
 use clause_store::ClauseList;
 use edge::NoMemory;
-use formulas::Valuation;
 use encoding::encoded;
+use formulas::Valuation;
 use merge_encoding::{Frame, Main};
 use merge_model::{AggregatorName, DistanceName, Problem};
 use report_lines::{Due, Kind, Subject};
@@ -73,8 +72,13 @@ impl Answering {
         due: Due,
     ) -> Answering
         requires { (due ≡ Due.Agents) ⊎ (due ≡ Due.Asks) }
-        ensures place { position_of result ≡ record start { due = due; distance = distance; aggregator = aggregator;
-            conflicts = conflicts; draft = draft_of problem } }
+        ensures place { position_of result ≡ record start {
+          due = due;
+          distance = distance;
+          aggregator = aggregator;
+          conflicts = conflicts;
+          draft = draft_of problem;
+        } }
         ensures fit { IsFit result }
     {
         Answering {

@@ -26,9 +26,9 @@ pub fn encoded(
     ensures list { IfOk result (λ main. main.clauses.list ≡
         map sorted_clause (main_named distance aggregator (profile_of problem.now) problem.now.asks).clauses) }
     ensures over { IfOk result (λ main. IsFrameOver main.clauses.vars main.frame) }
-    ensures means { IfOk result (λ main. IsMain (dist_named distance problem.now.atoms)
+    ensures means { IsMain (dist_named distance problem.now.atoms)
         (most_named distance problem.now.atoms (length problem.now.atoms)) (values_named aggregator)
-        (profile_of problem.now) problem.now.asks (main_named distance aggregator (profile_of problem.now) problem.now.asks)) }
+        (profile_of problem.now) problem.now.asks (main_named distance aggregator (profile_of problem.now) problem.now.asks) }
 {
     match (distance, aggregator) {
         (DistanceName::Drastic, AggregatorName::Sum) => encode(alloc, problem, &Drastic, &Sum),

@@ -1,5 +1,6 @@
 // The lines that name formulas without a model, and the first line of an answer.
-ghost use Rattle.std.specs.Prelude.{◌≡◌, ◌≢◌, ◌<◌, ◌⊎◌, ℕ, List, ◌∷◌, false, length, IsTrue, OnOk, OnErr};
+ghost use Rattle.std.specs.Prelude.{◌≡◌, ◌≢◌, ◌<◌, ◌≤◌, ◌⊎◌, ℕ, List, ◌∷◌, false, length, IsTrue, OnOk, OnErr};
+ghost use Rattle.formulas.specs.Formulas.{width_of};
 ghost use Rattle.merge_encoding.specs.Claims.{said};
 ghost use Rattle.report_words.specs.Words.{words_of};
 ghost use Rattle.report_lines.specs.ClaimsDue.{lack_of};
@@ -68,7 +69,8 @@ impl Answering {
     /// The formula of the subject.
     fn formula_of(&self, subject: Subject) -> &Formula
         requires { IsSubjectAt (position_of self.now) subject }
-        ensures { result.now ≡ formula_at (position_of self.now) subject }
+        ensures formula { result.now ≡ formula_at (position_of self.now) subject }
+        ensures wide { width_of result.now ≤ length self.now.problem.atoms }
     {
         match subject {
             Subject::TheConstraint => &self.problem.constraint,
@@ -123,7 +125,7 @@ impl Answering {
     }
 
     /// Whether the subject has a model.
-    pub fn on_named(&mut self, line: &[u8], subject: Subject) -> Result<(), LineStop>
+    pub(crate) fn on_named(&mut self, line: &[u8], subject: Subject) -> Result<(), LineStop>
         requires subject { IsSubjectAt (position_of self.old) subject }
         requires claims { AreProperAt (position_of self.old) }
         ensures judged { JudgedAs (IsNamedLine (position_of self.old) subject) (position_of self.old) line.now (StandsAtAnswer self.new) result }
@@ -159,7 +161,7 @@ impl Answering {
     }
 
     /// The first line of an answer.
-    pub fn on_answer(&mut self, line: &[u8]) -> Result<(), LineStop>
+    pub(crate) fn on_answer(&mut self, line: &[u8]) -> Result<(), LineStop>
         requires place { IsFirst self.old }
         requires claims { AreProperAt (position_of self.old) }
         ensures judged { JudgedAs (IsAnswerLine (position_of self.old)) (position_of self.old) line.now (StandsAtAnswer self.new) result }

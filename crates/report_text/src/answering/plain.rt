@@ -1,11 +1,10 @@
 // What plain evaluation says of an answer's lines.
-ghost use Rattle.std.specs.Prelude.{◌≡◌, ℕ, ◌≤◌, ◌==◌, ◌&&◌, length, map, All, IfOk, MatchOption, nat_le, false, true};
+ghost use Rattle.std.specs.Prelude.{◌≡◌, ◌≤◌, ◌==◌, ◌&&◌, length, map, All, IfOk, MatchOption, nat_le, false, true};
 ghost use Rattle.std.specs.List.{list_all};
 ghost use Rattle.std.specs.Str.{bytes_eq};
 ghost use Rattle.formulas.specs.Formulas.{holds, width_of};
 ghost use Rattle.ranks.specs.Limits.{distance_limit, entry_limit};
 ghost use Rattle.merge_model.specs.Answers.{dist_named, most_named, rank_named};
-ghost use Rattle.merge_model.specs.Merging.{repeated};
 ghost use Rattle.merge_encoding.specs.Named.{values_named};
 ghost use Rattle.report_lines.specs.Holding.{are_near};
 

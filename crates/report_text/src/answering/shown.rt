@@ -1,19 +1,20 @@
 // The lines of a shown model: the model, its vector, the nearest models and the measure.
-ghost use Rattle.std.specs.Prelude.{◌≡◌, ◌+◌, ◌<◌, ◌≤◌, ◌⊎◌, ◌++◌, true, false, length, map, All, IsTrue, IfOk, OnOk, OnErr, if◌then◌else◌, ◌==◌, nat_le};
+ghost use Rattle.std.specs.Prelude.{◌≡◌, ◌<◌, ◌≤◌, ◌⊎◌, true, length, map, All, IfOk, OnOk, OnErr, if◌then◌else◌, ◌==◌, nat_le};
 ghost use Rattle.std.specs.List.{list_all};
 ghost use Rattle.report_lines.specs.ClaimsDue.{far_claims};
 ghost use Rattle.report_lines.specs.Following.{due_after_verdicts};
-ghost use Rattle.report_lines.specs.Holding.{breaks, holds, is_as_good};
-ghost use Rattle.report_lines.specs.Items.{ModelLine, VectorLine, NearestLine, MeasureLine};
+ghost use Rattle.report_lines.specs.Holding.{breaks, holds};
+ghost use Rattle.report_lines.specs.Items.{ModelLine, VectorLine};
 ghost use Rattle.report_lines.specs.Places.{DueAt, IsModelLine, full_at, rank_at, top_at};
 ghost use Rattle.merge_encoding.specs.Named.{values_named};
-ghost use Rattle.report_text.specs.Answering.{position_of, due_claim, StandsAtAnswer, FitsAt, IsFirst, IsAfterNo, IsMeasured, IsVectorAt, AreProperAt, IsFit};
+ghost use Rattle.ranks.specs.Limits.{distance_limit, entry_limit};
+ghost use Rattle.report_text.specs.Answering.{position_of, due_claim, StandsAtAnswer, FitsAt, IsFirst, IsAfterNo, IsVectorAt, AreProperAt, IsFit};
 ghost use Rattle.report_text.specs.Judging.{JudgedAs};
 ghost use Rattle.report_text.specs.Taking.{Takes};
 
-use crate::answering::{Answering, Claimed};
 use crate::answering::claims::{add_claims, far_claims, least_claims};
 use crate::answering::plain::{are_equal, are_near_named, narrowed, rank_of, top_of, values_of};
+use crate::answering::{Answering, Claimed};
 use crate::stop::LineStop;
 use edge::NoMemory;
 use formulas::Valuation;
@@ -51,7 +52,7 @@ impl Answering {
     }
 
     /// A model: the first, or one after a no.
-    pub fn on_model(&mut self, line: &[u8]) -> Result<(), LineStop>
+    pub(crate) fn on_model(&mut self, line: &[u8]) -> Result<(), LineStop>
         requires place { IsFirst self.old ⊎ IsAfterNo self.old }
         requires claims { AreProperAt (position_of self.old) }
         ensures judged { JudgedAs (IsModelLine (position_of self.old)) (position_of self.old) line.now (StandsAtAnswer self.new) result }
@@ -69,12 +70,25 @@ impl Answering {
         Ok(())
     }
 
+    /// The full vector of a vector.
+    fn full_of(&self, vector: &[u32]) -> Result<Vec<u32>, NoMemory>
+        requires { IsVectorAt (position_of self.now) vector.now }
+        ensures full { IfOk result (λ full. full.items ≡ full_at (position_of self.now) vector.now) }
+        ensures some { IfOk result (λ full. 1 ≤ length full.items) }
+        ensures few { IfOk result (λ full. length full.items ≤ entry_limit) }
+        ensures within { IfOk result (λ full. All (λ k. k ≤ top_at (position_of self.now)) full.items) }
+        ensures small { IfOk result (λ full. All (λ k. k ≤ distance_limit) full.items) }
+    {
+        let full = full_vector(self.alloc, vector, self.problem.agents.as_slice())?;
+        Ok(full)
+    }
+
     /// The rank of a vector's full vector.
     fn ranked(&self, vector: &[u32]) -> Result<Vec<u32>, NoMemory>
         requires { IsVectorAt (position_of self.now) vector.now }
         ensures { IfOk result (λ rank. rank.items ≡ rank_at (position_of self.now) vector.now) }
     {
-        let full = full_vector(self.alloc, vector, self.problem.agents.as_slice())?;
+        let full = self.full_of(vector)?;
         rank_of(self.alloc, self.aggregator, &full)
     }
 
@@ -86,7 +100,7 @@ impl Answering {
         ensures values { IfOk result (λ first. first.values.items ≡
             values_named self.now.aggregator (full_at (position_of self.now) vector.now) (top_at (position_of self.now))) }
     {
-        let full = full_vector(self.alloc, vector, self.problem.agents.as_slice())?;
+        let full = self.full_of(vector)?;
         let top = top_of(self.distance, &self.problem);
         Ok(First {
             vector: vector.to_vec(self.alloc)?,
@@ -146,7 +160,7 @@ impl Answering {
     }
 
     /// The vector of the last model.
-    pub fn on_vector(&mut self, line: &[u8]) -> Result<(), LineStop>
+    pub(crate) fn on_vector(&mut self, line: &[u8]) -> Result<(), LineStop>
         requires place { FitsAt Due.Vector self.old }
         requires claims { AreProperAt (position_of self.old) }
         ensures judged { JudgedAs (DueAt Due.Vector (position_of self.old)) (position_of self.old) line.now (StandsAtAnswer self.new) result }
@@ -179,7 +193,7 @@ impl Answering {
     }
 
     /// The nearest models of the last model.
-    pub fn on_nearest(&mut self, line: &[u8]) -> Result<(), LineStop>
+    pub(crate) fn on_nearest(&mut self, line: &[u8]) -> Result<(), LineStop>
         requires place { FitsAt Due.Nearest self.old }
         requires claims { AreProperAt (position_of self.old) }
         ensures judged { JudgedAs (DueAt Due.Nearest (position_of self.old)) (position_of self.old) line.now (StandsAtAnswer self.new) result }
@@ -205,7 +219,7 @@ impl Answering {
     }
 
     /// The measure of the first vector.
-    pub fn on_measure(&mut self, line: &[u8]) -> Result<(), LineStop>
+    pub(crate) fn on_measure(&mut self, line: &[u8]) -> Result<(), LineStop>
         requires place { FitsAt Due.Measure self.old }
         requires claims { AreProperAt (position_of self.old) }
         ensures judged { JudgedAs (DueAt Due.Measure (position_of self.old)) (position_of self.old) line.now (StandsAtAnswer self.new) result }

@@ -44,7 +44,7 @@ impl Answering {
     }
 
     /// The verdict on the next query.
-    pub fn on_verdict(&mut self, line: &[u8]) -> Result<(), LineStop>
+    pub(crate) fn on_verdict(&mut self, line: &[u8]) -> Result<(), LineStop>
         requires place { FitsAt Due.Verdict self.old }
         requires claims { AreProperAt (position_of self.old) }
         ensures judged { JudgedAs (DueAt Due.Verdict (position_of self.old)) (position_of self.old) line.now (StandsAtAnswer self.new) result }
