@@ -1,8 +1,10 @@
 -- Closest valuations in rising order.
-use Rattle.std.specs.Prelude.{◌≡◌, ℕ, Bool, List, take, Option, None, Some, Result, Ok, Err, ◌⊎◌}
+use Rattle.std.specs.Prelude.{◌≡◌, ℕ, ◌≤◌, Bool, List, [], ◌∷◌, length, take, Option, None, Some, Result, Ok, Err, ◌⊎◌}
 use Rattle.formulas.specs.Words.{IsBefore}
-use Rattle.merge_model.specs.Merging.{IsClosest, IsAbove}
+use Rattle.merge_model.specs.Merging.{IsClosest, IsAbove, IsListed}
+use Rattle.distance_search.specs.declared.answer.Best.{Best}
 use Rattle.distance_search.specs.declared.reply.SearchStop.{SearchStop}
+use Rattle.distance_search.specs.Results.{IsBestFor}
 use Rattle.distance_search.specs.Setting.{Setting}
 
 abbrev pub IsClosestIn : Setting → List Bool → Type 0
@@ -36,3 +38,18 @@ abbrev pub place_after : Option (List Bool) → Result (Option (List Bool)) Sear
 place_after after (Ok None) = after
 place_after after (Ok (Some next)) = Some next
 place_after after (Err stop) = after
+
+-- valuations, each the next above the one before it, the first above the one that is given
+abbrev pub AreListed : Setting → Option (List Bool) → List (List Bool) → Type 0
+AreListed s after [] = Unit {0}
+AreListed s after (v ∷ vs) = IsNextListed s after (Some v) × AreListed s (Some v) vs
+
+-- the last of them, or the one that is given where there are none
+abbrev pub last_of : Option (List Bool) → List (List Bool) → Option (List Bool)
+last_of after [] = after
+last_of after (v ∷ vs) = last_of (Some v) vs
+
+-- they are the first closest valuations above the one that is given, and all where none is above the last
+abbrev pub ListedLaw : Type 0
+ListedLaw = (s : Setting) (best : Best) → IsBestFor s best → (after : Option (List Bool)) (vs : List (List Bool)) → AreListed s after vs →
+    IsListed s.dist s.rank s.profile after (length vs) vs × (IsNextListed s (last_of after vs) None → (k : ℕ) → length vs ≤ k → IsListed s.dist s.rank s.profile after k vs)

@@ -1,5 +1,5 @@
 -- Logs that grow at their end.
-use Rattle.std.proofs.Common.{ℕ, ◌∙◌}
+use Rattle.std.proofs.Common.{ℕ, ◌≤◌, length, sym, subst, ◌∙◌}
 use Rattle.derivation_log.specs.Logs.{Log}
 use Rattle.cdcl_core.specs.Replies.{IsLonger}
 use Rattle.cdcl_core.proofs.Longer.{known_on}
@@ -13,4 +13,4 @@ over_on s a b g h = record { clauses = g.main ∙ h.clauses; vars = g.vars ∙ h
 
 -- what a step shows, it shows in a longer log
 pub shows_on : (s : Setting) (a b : Log) (number : ℕ) (claim : Assertion) → IsLonger a b → Shows s a number claim → Shows s b number claim
-shows_on s a b number claim g h = record { clause = h.clause; is_there = known_on a b number h.clause g h.is_there; refuted = h.refuted }
+shows_on s a b number claim g h = record { above = subst (λ cs. length cs ≤ number) (sym g.main) h.above; clause = h.clause; is_there = known_on a b number h.clause g h.is_there; refuted = h.refuted }

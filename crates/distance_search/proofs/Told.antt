@@ -1,5 +1,5 @@
 -- What the solver's replies say of a list of assumptions.
-use Rattle.std.proofs.Common.{◌≡◌, ℕ, zero, suc, ◌+◌, ◌<◌, ◌≤◌, ◌^◌, Bool, true, List, [], ◌∷◌, ◌++◌, length, map, refl, sym, ap, ◌∙◌, subst, arith, append_assoc, Option, Some, None}
+use Rattle.std.proofs.Common.{◌≡◌, ℕ, zero, suc, ◌+◌, ◌<◌, ◌≤◌, ◌^◌, Bool, true, List, [], ◌∷◌, ◌++◌, length, map, refl, sym, ap, ◌∙◌, subst, arith, append_assoc, length-append, Option, Some, None}
 use Rattle.std.specs.Prelude.{slice_get}
 use Rattle.clause_store.specs.declared.lit.Lit.{Lit}
 use Rattle.clause_store.specs.Truth.{AreTrue, values_of}
@@ -28,6 +28,7 @@ heard_refuted old new asked assumed budget reply number same is answer just =
     let known : known_of new ≡ known_of mid ++ s.clause ∷ [] = ap known_of appended ∙ ap (λ cs. mid.main ++ cs) (clauses_append mid.steps (s ∷ [])) ∙ sym (append_assoc mid.main (clauses_of mid.steps) (s.clause ∷ [])) in (
       λ b r t. j b r (subst (λ ls. AllTrue b ls) (sym same) t),
       record {
+        above = omega (arith, x.5, length-append mid.main (clauses_of mid.steps), ap (λ (l : Log). length l.main) appended);
         clause = s.clause;
         is_there = ap (λ cs. slice_get cs number) known ∙ ap (λ k. slice_get (known_of mid ++ s.clause ∷ []) k) x.5 ∙ get_seam (known_of mid) s.clause;
         refuted = subst (λ ls. Refutes s.clause ls) same claimed.2;

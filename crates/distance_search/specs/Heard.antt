@@ -1,5 +1,5 @@
 -- What a solver's reply says through the frame.
-use Rattle.std.specs.Prelude.{◌≡◌, ℕ, ◌<◌, ◌^◌, Bool, List, length, map, slice_get, Some}
+use Rattle.std.specs.Prelude.{◌≡◌, ℕ, ◌<◌, ◌≤◌, ◌^◌, Bool, List, length, map, slice_get, Some}
 use Rattle.clause_store.specs.declared.lit.Lit.{Lit}
 use Rattle.clause_store.specs.Truth.{AreTrue}
 use Rattle.agent_copies.specs.declared.copy.AgentCopy.{AgentCopy}
@@ -29,8 +29,9 @@ pub record IsRead (frame : Frame) (clauses : List (List Lit)) (assumed : List Li
   pub assumptions : AllTrue assignment assumed
   pub seen : IsSeen frame assignment x
 
--- the step of that number refutes the assumptions
+-- the step of that number, which is of no main clause, refutes the assumptions
 pub record IsRefuting (log : Log) (assumed : List Lit) (number : ℕ) : Type 0 where
+  pub above : length log.main ≤ number
   pub clause : List Lit
   pub is_there : slice_get (known_of log) number ≡ Some clause
   pub refuted : Refutes clause assumed

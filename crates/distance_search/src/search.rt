@@ -242,6 +242,10 @@ impl<D: Counted + Drop, A: Levelled + Drop> Search<D, A> {
         ensures problem { result.0 ≡ self.subject.problem }
         ensures log { result.1 ≡ self.engine.log }
         ensures sound { IsLog self.engine.log }
+        ensures over { IsOver (setting_of
+            (D.dist self.subject.distance) (D.most self.subject.distance) (D.due self.subject.distance)
+            (A.rank self.subject.aggregator) (A.levels_of self.subject.aggregator) (A.levels_due self.subject.aggregator)
+            self.subject.problem) self.engine.log }
     {
         let Search {
             subject,

@@ -1,2 +1,4 @@
 pub mod Narrow
 pub mod News
+pub mod Included
+pub mod Indexed

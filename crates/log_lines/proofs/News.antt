@@ -1,18 +1,14 @@
 -- Clauses that are new, one after another.
-use Rattle.std.proofs.Common.{◌≡◌, ℕ, zero, suc, ◌+◌, ◌<◌, ◌≤◌, Bool, true, false, cond, not, ◌&&◌, ◌||◌, List, [], ◌∷◌, ◌++◌, length, take, drop, Some, refl, ap, sym, ◌∙◌, append_assoc, arith}
-use Rattle.std.specs.Prelude.{slice_get}
+use Rattle.std.proofs.Common.{◌≡◌, ℕ, zero, suc, ◌+◌, ◌<◌, ◌≤◌, Bool, true, false, cond, not, ◌&&◌, ◌||◌, List, [], ◌∷◌, ◌++◌, length, take, drop, Some, refl, ap, sym, ◌∙◌, append_assoc, append-nil, arith}
+use Rattle.std.specs.Prelude.{slice_get, Option, unwrap_or}
 use Rattle.std.specs.List.{list_any}
 use Rattle.std.proofs.lemmas.Grind.{common_steps}
 use Rattle.std.proofs.lemmas.List.{length-drop}
-use Rattle.std.proofs.lemmas.List.Folds.{list_any-append}
 use Rattle.clause_store.specs.declared.lit.Lit.{Lit}
+use Rattle.clause_store.specs.Clauses.{clause_at}
 use Rattle.derivation_log.specs.declared.step.StepKind.{StepKind}
 use Rattle.derivation_log.specs.Logs.{is_learned}
-use Rattle.log_lines.specs.Spending.{Noted, noted_of, includes, learned_clauses, is_new_at, are_new}
-
-or_false : (a b : Bool) → a ≡ false → b ≡ false → (a || b) ≡ false
-or_false true b e f = absurd (cc)
-or_false false b e f = f
+use Rattle.log_lines.specs.Spending.{Noted, noted_of, includes, learned_clauses, is_new_at, are_new, earlier}
 
 or_left : (a b : Bool) → a ≡ true → (a || b) ≡ true
 or_left true b e = refl
@@ -21,14 +17,6 @@ or_left false b e = absurd (cc)
 or_right : (a b : Bool) → b ≡ true → (a || b) ≡ true
 or_right true b e = refl
 or_right false b e = e
-
-or_right_is : (a b : Bool) → a ≡ false → (a || b) ≡ b
-or_right_is true b e = absurd (cc)
-or_right_is false b e = refl
-
-and_end : (a : Bool) → (a && false) ≡ false
-and_end true = refl
-and_end false = refl
 
 pub and_is : (a b : Bool) → a ≡ true → (a && b) ≡ b
 and_is true b e = refl
@@ -44,13 +32,6 @@ and_first false b e = e
 
 some_is : {A : Type 0} {x y : A} → Some x ≡ Some y → x ≡ y
 some_is e = cc
-
--- an element of the first n is one of the list's
-pub get_take : {A : Type 0} (xs : List A) (n k : ℕ) → k < n → slice_get (take n xs) k ≡ slice_get xs k
-get_take [] n k h = grind (arith, common_steps)
-get_take (x ∷ xs) zero k h = absurd (omega arith)
-get_take (x ∷ xs) (suc n) zero h = refl
-get_take (x ∷ xs) (suc n) (suc k) h = get_take xs n k (omega arith)
 
 pub get_drop : {A : Type 0} (xs : List A) (m k : ℕ) → slice_get (drop m xs) k ≡ slice_get xs (m + k)
 get_drop xs zero k = let e : zero + k ≡ k = omega arith in ap (slice_get xs) (sym e)
@@ -68,16 +49,6 @@ rest_of [] k x e = absurd (cc)
 rest_of (y ∷ xs) zero x e = ap (λ z. z ∷ xs) (some_is e)
 rest_of (y ∷ xs) (suc k) x e = let n : suc k + 1 ≡ suc (k + 1) = omega arith in rest_of xs k x e ∙ ap (λ i. x ∷ drop i (y ∷ xs)) (sym n)
 
-pub none_more : {A : Type 0} (p : A → Bool) (xs : List A) (k : ℕ) (x : A) → slice_get xs k ≡ Some x → list_any p (take k xs) ≡ false → p x ≡ false → list_any p (take (k + 1) xs) ≡ false
-none_more p xs k x e h f =
-    ap (list_any p) (more_of xs k x e) ∙ (list_any-append p (take k xs) (x ∷ []) ∙ or_false (list_any p (take k xs)) (p x || false) h (or_false (p x) false f refl))
-
-pub one_there : {A : Type 0} (p : A → Bool) (xs : List A) (n k : ℕ) (x : A) → slice_get xs k ≡ Some x → k < n → p x ≡ true → list_any p (take n xs) ≡ true
-one_there p [] n k x e lt h = absurd (cc)
-one_there p (y ∷ xs) zero k x e lt h = absurd (omega arith)
-one_there p (y ∷ xs) (suc n) zero x e lt h = or_left (p y) (list_any p (take n xs)) (ap p (some_is e) ∙ h)
-one_there p (y ∷ xs) (suc n) (suc k) x e lt h = or_right (p y) (list_any p (take n xs)) (one_there p xs n k x e (omega arith) h)
-
 -- the clauses of learned steps
 
 learned_one : (b : Bool) (s : Noted) → s.learned ≡ b → learned_clauses (s ∷ []) ≡ cond b (s.clause ∷ []) []
@@ -90,43 +61,6 @@ front_of false c xs ys zs e = e
 pub learned-append : (ns ms : List Noted) → learned_clauses (ns ++ ms) ≡ learned_clauses ns ++ learned_clauses ms
 learned-append [] ms = refl
 learned-append (n ∷ ns) ms = front_of n.learned n.clause (learned_clauses ns) (learned_clauses ms) (learned_clauses (ns ++ ms)) (learned-append ns ms)
-
-or_end : (b : Bool) → (b || false) ≡ b
-or_end true = refl
-or_end false = refl
-
-one_by : (p : List Lit → Bool) (c : List Lit) (b : Bool) → list_any p (cond b (c ∷ []) []) ≡ (b && p c)
-one_by p c true = or_end (p c)
-one_by p c false = refl
-
-any_one : (p : List Lit → Bool) (s : Noted) → list_any p (learned_clauses (s ∷ [])) ≡ (s.learned && p s.clause)
-any_one p s = one_by p s.clause s.learned
-
-pub learned_none : (p : List Lit → Bool) (ns : List Noted) (k : ℕ) (s : Noted) → slice_get ns k ≡ Some s → list_any p (learned_clauses (take k ns)) ≡ false → (s.learned && p s.clause) ≡ false →
-    list_any p (learned_clauses (take (k + 1) ns)) ≡ false
-learned_none p ns k s e h f =
-    ap (λ ms. list_any p (learned_clauses ms)) (more_of ns k s e)
-    ∙ (ap (list_any p) (learned-append (take k ns) (s ∷ []))
-    ∙ (list_any-append p (learned_clauses (take k ns)) (learned_clauses (s ∷ []))
-    ∙ or_false (list_any p (learned_clauses (take k ns))) (list_any p (learned_clauses (s ∷ []))) h (any_one p s ∙ f)))
-
-learned_first : (p : List Lit → Bool) (s : Noted) (ns : List Noted) → (s.learned && p s.clause) ≡ true → list_any p (learned_clauses (s ∷ ns)) ≡ true
-learned_first p s ns h =
-    ap (list_any p) (learned-append (s ∷ []) ns)
-    ∙ (list_any-append p (learned_clauses (s ∷ [])) (learned_clauses ns)
-    ∙ or_left (list_any p (learned_clauses (s ∷ []))) (list_any p (learned_clauses ns)) (any_one p s ∙ h))
-
-learned_later : (p : List Lit → Bool) (s : Noted) (ns : List Noted) → list_any p (learned_clauses ns) ≡ true → list_any p (learned_clauses (s ∷ ns)) ≡ true
-learned_later p s ns h =
-    ap (list_any p) (learned-append (s ∷ []) ns)
-    ∙ (list_any-append p (learned_clauses (s ∷ [])) (learned_clauses ns)
-    ∙ or_right (list_any p (learned_clauses (s ∷ []))) (list_any p (learned_clauses ns)) h)
-
-pub learned_there : (p : List Lit → Bool) (ns : List Noted) (n k : ℕ) (s : Noted) → slice_get ns k ≡ Some s → k < n → (s.learned && p s.clause) ≡ true → list_any p (learned_clauses (take n ns)) ≡ true
-learned_there p [] n k s e lt h = absurd (cc)
-learned_there p (m ∷ ns) zero k s e lt h = absurd (omega arith)
-learned_there p (m ∷ ns) (suc n) zero s e lt h = learned_first p m (take n ns) (ap (λ (t : Noted). t.learned && p t.clause) (some_is e) ∙ h)
-learned_there p (m ∷ ns) (suc n) (suc k) s e lt h = learned_later p m (take n ns) (learned_there p ns n k s e (omega arith) h)
 
 -- the kind and the clause of the step of a place
 pub noted_kind : (kinds : List StepKind) (cs : List (List Lit)) (k : ℕ) (s : Noted) (kind : StepKind) → slice_get (noted_of kinds cs) k ≡ Some s → slice_get kinds k ≡ Some kind → s.learned ≡ is_learned kind
@@ -163,18 +97,6 @@ step_clause kinds list main k s c e f = noted_clause kinds (drop main list) k s 
 pub not_learned : (main : List (List Lit)) (ns : List Noted) (k : ℕ) (s : Noted) → s.learned ≡ false → is_new_at main ns k s ≡ false
 not_learned main ns k s e = and_not s.learned (not (list_any (includes s.clause) (main ++ learned_clauses (take k ns)))) e
 
-pub not_new_main : (main : List (List Lit)) (ns : List Noted) (k : ℕ) (s : Noted) → list_any (includes s.clause) main ≡ true → is_new_at main ns k s ≡ false
-not_new_main main ns k s e =
-    let all : list_any (includes s.clause) (main ++ learned_clauses (take k ns)) ≡ true =
-    list_any-append (includes s.clause) main (learned_clauses (take k ns)) ∙ or_left (list_any (includes s.clause) main) (list_any (includes s.clause) (learned_clauses (take k ns))) e in
-    ap (λ (b : Bool). s.learned && not b) all ∙ and_end s.learned
-
-pub new_by : (main : List (List Lit)) (ns : List Noted) (k : ℕ) (s : Noted) → s.learned ≡ true → list_any (includes s.clause) main ≡ false →
-    is_new_at main ns k s ≡ not (list_any (includes s.clause) (learned_clauses (take k ns)))
-new_by main ns k s l e =
-    and_is s.learned (not (list_any (includes s.clause) (main ++ learned_clauses (take k ns)))) l
-    ∙ ap not (list_any-append (includes s.clause) main (learned_clauses (take k ns)) ∙ or_right_is (list_any (includes s.clause) main) (list_any (includes s.clause) (learned_clauses (take k ns))) e)
-
 -- the last steps, from place k on
 
 abbrev pub new_from : List (List Lit) → List Noted → ℕ → Bool
@@ -205,3 +127,52 @@ drop_past xs k h = grind (arith, common_steps)
 
 pub new_end : (main : List (List Lit)) (ns : List Noted) (k : ℕ) → length ns ≤ k → new_from main ns k ≡ true
 new_end main ns k h = ap (are_new (main ++ learned_clauses (take k ns))) (drop_past ns k h)
+
+-- the clauses before a step
+
+step_at : (kinds : List StepKind) (list : List (List Lit)) (main k : ℕ) (kind : StepKind) → main + length kinds ≡ length list → k < length kinds → slice_get kinds k ≡ Some kind →
+    (s : Noted) × (slice_get (noted_of kinds (drop main list)) k ≡ Some s) × (s.learned ≡ is_learned kind) × (s.clause ≡ clause_at list (main + k))
+step_at kinds list main k kind size lt is =
+    let ns = noted_of kinds (drop main list) in
+    let s = some_at ns k (let n = length-steps kinds list main size in omega arith) in
+    let c = some_at list (main + k) (omega arith) in
+    (s.0, s.1, noted_kind kinds (drop main list) k s.0 kind s.1 is, step_clause kinds list main k s.0 c.0 s.1 c.1 ∙ ap (λ (o : Option (List Lit)). unwrap_or o []) (sym c.1))
+
+pub earlier_none : (main : ℕ) (kinds : List StepKind) (list : List (List Lit)) → earlier main kinds list 0 ≡ take main list
+earlier_none main kinds list = append-nil (take main list)
+
+pub earlier_more : (kinds : List StepKind) (list : List (List Lit)) (main k : ℕ) (kind : StepKind) → main + length kinds ≡ length list → k < length kinds → slice_get kinds k ≡ Some kind → is_learned kind ≡ true →
+    earlier main kinds list k ++ clause_at list (main + k) ∷ [] ≡ earlier main kinds list (k + 1)
+earlier_more kinds list main k kind size lt is learned =
+    let ns = noted_of kinds (drop main list) in
+    let s = step_at kinds list main k kind size lt is in
+    append_assoc (take main list) (learned_clauses (take k ns)) (clause_at list (main + k) ∷ [])
+    ∙ ap (λ cs. take main list ++ cs) (ap (λ (c : List Lit). learned_clauses (take k ns) ++ c ∷ []) (sym s.3) ∙ sym (learned_grown ns k s.0 s.1 (s.2 ∙ learned)))
+
+pub earlier_same : (kinds : List StepKind) (list : List (List Lit)) (main k : ℕ) (kind : StepKind) → main + length kinds ≡ length list → k < length kinds → slice_get kinds k ≡ Some kind → is_learned kind ≡ false →
+    earlier main kinds list k ≡ earlier main kinds list (k + 1)
+earlier_same kinds list main k kind size lt is other =
+    let ns = noted_of kinds (drop main list) in
+    let s = step_at kinds list main k kind size lt is in
+    ap (λ cs. take main list ++ cs) (sym (ap learned_clauses (more_of ns k s.0 s.1) ∙ (learned-append (take k ns) (s.0 ∷ [])
+    ∙ (ap (λ cs. learned_clauses (take k ns) ++ cs) (learned_one false s.0 (s.2 ∙ other)) ∙ append-nil (learned_clauses (take k ns))))))
+
+-- whether a step is new, by what is known of its clause
+pub new_is : (kinds : List StepKind) (list : List (List Lit)) (main k : ℕ) (kind : StepKind) (b : Bool) (s : Noted) → main + length kinds ≡ length list → k < length kinds → slice_get kinds k ≡ Some kind → is_learned kind ≡ true →
+    list_any (includes (clause_at list (main + k))) (earlier main kinds list k) ≡ b → slice_get (noted_of kinds (drop main list)) k ≡ Some s →
+    is_new_at (take main list) (noted_of kinds (drop main list)) k s ≡ not b
+new_is kinds list main k kind b s size lt is learned any at =
+    let ns = noted_of kinds (drop main list) in
+    let t = step_at kinds list main k kind size lt is in
+    let one : t.0 ≡ s = some_is (sym t.1 ∙ at) in
+    let own : s.learned ≡ true = ap (λ (n : Noted). n.learned) (sym one) ∙ (t.2 ∙ learned) in
+    let value : s.clause ≡ clause_at list (main + k) = ap (λ (n : Noted). n.clause) (sym one) ∙ t.3 in
+    and_is s.learned (not (list_any (includes s.clause) (earlier main kinds list k))) own
+    ∙ ap not (ap (λ (d : List Lit). list_any (includes d) (earlier main kinds list k)) value ∙ any)
+
+-- one clause more
+pub take_more : (list : List (List Lit)) (k : ℕ) → k < length list → take k list ++ clause_at list k ∷ [] ≡ take (k + 1) list
+take_more list k lt =
+    let c = some_at list k lt in
+    let value : clause_at list k ≡ c.0 = ap (λ (o : Option (List Lit)). unwrap_or o []) c.1 in
+    ap (λ (x : List Lit). take k list ++ x ∷ []) value ∙ sym (more_of list k c.0 c.1)

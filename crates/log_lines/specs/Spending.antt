@@ -34,6 +34,10 @@ are_new before (s ∷ steps) = (s.learned && not (list_any (includes s.clause) b
 abbrev pub is_new_at : List (List Lit) → List Noted → ℕ → Noted → Bool
 is_new_at main steps k s = s.learned && not (list_any (includes s.clause) (main ++ learned_clauses (take k steps)))
 
+-- the main clauses, and those of the first learned steps, of so many steps
+abbrev pub earlier : ℕ → List StepKind → List (List Lit) → ℕ → List (List Lit)
+earlier main kinds list steps = take main list ++ learned_clauses (take steps (noted_of kinds (drop main list)))
+
 -- the last steps, so many, are learned, and include no main clause and no clause of an earlier learned step
 abbrev pub ends_new : ℕ → List (List Lit) → List Noted → Bool
 ends_new count main steps =

@@ -1,6 +1,7 @@
 //! Step lines over clauses that are known: which are right next, and how a log ends that spent its conflicts.
 #![tactic(auto)]
 
+mod index;
 mod spending;
 mod taking;
 

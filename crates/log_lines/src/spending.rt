@@ -1,11 +1,14 @@
 // Whether the last steps of a log are learned and new.
-ghost use Rattle.std.specs.Prelude.{◌≡◌, ◌+◌, ◌<◌, ◌≤◌, ◌&&◌, Some, length, slice_get, take, drop};
-ghost use Rattle.std.specs.List.{list_any};
+ghost use Rattle.std.specs.Prelude.{◌≡◌, ◌+◌, ◌<◌, ◌≤◌, Some, IsTrue, IfOk, length, slice_get, take, drop};
 ghost use Rattle.derivation_log.specs.Logs.{is_learned};
-ghost use Rattle.log_lines.specs.Spending.{Noted as Step, includes, is_new_at, learned_clauses, noted_of, ends_new};
+ghost use Rattle.log_lines.specs.Indexes.{IsIndexOf};
+ghost use Rattle.log_lines.specs.Spending.{Noted as Step, is_new_at, noted_of, earlier, ends_new};
 
-use clause_store::{ClauseList, Lit, has_lit};
+use crate::index::Index;
+use clause_store::ClauseList;
 use derivation_log::StepKind;
+use edge::NoMemory;
+use std::alloc::Global;
 
 fn is_kept(kind: StepKind) -> bool
     ensures { result ≡ is_learned kind }
@@ -16,31 +19,6 @@ fn is_kept(kind: StepKind) -> bool
     }
 }
 
-// Whether each literal of the second clause is in the first.
-fn is_within(outer: &[Lit], inner: &[Lit]) -> bool
-    ensures { result ≡ includes outer.now inner.now }
-{
-    for lit in inner {
-        if !has_lit(outer, *lit) {
-            return false;
-        }
-    }
-    true
-}
-
-// Whether the clause includes one of the first clauses, so many.
-fn includes_main(known: &ClauseList, clause: &[Lit], main: u64) -> bool
-    requires { main ≤ length known.now.list }
-    ensures { result ≡ list_any (includes clause.now) (take main known.now.list) }
-{
-    for k in 0..main {
-        if is_within(clause, known.clause(k)) {
-            return true;
-        }
-    }
-    false
-}
-
 fn kind_at(kinds: &[StepKind], k: usize) -> StepKind
     requires { k < length kinds.now }
     ensures { slice_get kinds.now k ≡ Some result }
@@ -48,75 +26,99 @@ fn kind_at(kinds: &[StepKind], k: usize) -> StepKind
     kinds[k]
 }
 
-// Whether the step at a place is learned and the clause includes its clause.
-fn includes_step(
-    known: &ClauseList,
-    clause: &[Lit],
-    main: u64,
-    kinds: &[StepKind],
-    k: usize,
-) -> bool
-    requires step { k < length kinds.now }
-    requires known { main + length kinds.now ≡ length known.now.list }
-    ensures { (s : Step) → slice_get (noted_of kinds.now (drop main known.now.list)) k ≡ Some s →
-        result ≡ (s.learned && includes clause.now s.clause) }
+// The main clauses, so many.
+fn index_main(alloc: Global, known: &ClauseList, main: u64) -> Result<Index, NoMemory>
+    requires { main ≤ length known.now.list }
+    ensures { IfOk result (λ index. IsIndexOf index known.now (take main known.now.list) main) }
 {
-    let _fewer_than_2_to_63 = known.len();
-    if !is_kept(kind_at(kinds, k)) {
-        return false;
+    let mut index = Index::new(alloc, known)?;
+    for number in 0..main {
+        index.add(known, number);
     }
-    is_within(clause, known.clause(main + k as u64))
+    Ok(index)
 }
 
-// Whether the clause includes that of one of the first learned steps, of so many steps.
-fn includes_learned(
+// The clause of a step joins where the step is learned.
+fn add_learned(index: &mut Index, known: &ClauseList, main: u64, kinds: &[StepKind], step: usize)
+    requires step { step < length kinds.now }
+    requires known { main + length kinds.now ≡ length known.now.list }
+    requires index { IsIndexOf index.old known.now (earlier main kinds.now known.now.list step) (main + step) }
+    ensures { IsIndexOf index.new known.now (earlier main kinds.now known.now.list (step + 1)) (main + (step + 1)) }
+{
+    let _fewer_than_2_to_63 = known.len();
+    if !is_kept(kind_at(kinds, step)) {
+        return;
+    }
+    index.add(known, main + step as u64);
+}
+
+// The main clauses and those of the first learned steps, of so many steps.
+fn index_earlier(
+    alloc: Global,
     known: &ClauseList,
-    clause: &[Lit],
     main: u64,
     kinds: &[StepKind],
     steps: usize,
-) -> bool
+) -> Result<Index, NoMemory>
     requires steps { steps ≤ length kinds.now }
     requires known { main + length kinds.now ≡ length known.now.list }
-    ensures { result ≡ list_any (includes clause.now) (learned_clauses (take steps (noted_of kinds.now (drop main known.now.list)))) }
+    ensures { IfOk result (λ index. IsIndexOf index known.now (earlier main kinds.now known.now.list steps) (main + steps)) }
 {
-    for k in 0..steps {
-        if includes_step(known, clause, main, kinds, k) {
-            return true;
-        }
+    let mut index = index_main(alloc, known, main)?;
+    for step in 0..steps {
+        add_learned(&mut index, known, main, kinds, step);
     }
-    false
+    Ok(index)
 }
 
-// Whether the step is learned and includes no main clause and no clause of an earlier learned step.
-fn is_new(known: &ClauseList, main: u64, kinds: &[StepKind], step: usize) -> bool
+// Whether the step is learned and includes no main clause and no clause of an earlier learned step. Its clause joins
+// then.
+fn add_new(
+    index: &mut Index,
+    known: &ClauseList,
+    main: u64,
+    kinds: &[StepKind],
+    step: usize,
+) -> bool
     requires step { step < length kinds.now }
     requires known { main + length kinds.now ≡ length known.now.list }
-    ensures { (s : Step) → slice_get (noted_of kinds.now (drop main known.now.list)) step ≡ Some s →
+    requires index { IsIndexOf index.old known.now (earlier main kinds.now known.now.list step) (main + step) }
+    ensures exact { (s : Step) → slice_get (noted_of kinds.now (drop main known.now.list)) step ≡ Some s →
         result ≡ is_new_at (take main known.now.list) (noted_of kinds.now (drop main known.now.list)) step s }
+    ensures joined { IsTrue result → IsIndexOf index.new known.now (earlier main kinds.now known.now.list (step + 1)) (main + (step + 1)) }
 {
     let _fewer_than_2_to_63 = known.len();
     if !is_kept(kind_at(kinds, step)) {
         return false;
     }
-    let clause = known.clause(main + step as u64);
-    if includes_main(known, clause, main) {
+    let number = main + step as u64;
+    if index.has_within(known, known.clause(number)) {
         return false;
     }
-    !includes_learned(known, clause, main, kinds, step)
+    index.add(known, number);
+    true
 }
 
 /// Whether the last steps of a log, so many, are learned and include no main clause and no clause of an earlier
-/// learned step. The known clauses are the main ones, so many, and then one for each step, of these kinds.
-pub fn are_last_new(known: &ClauseList, main: u64, kinds: &[StepKind], count: usize) -> bool
+/// learned step. The known clauses are the main ones, so many, and then one for each step, of these kinds. `NoMemory`
+/// for want of memory, and where there are 2^32 - 1 clauses or more.
+pub fn are_last_new(
+    alloc: Global,
+    known: &ClauseList,
+    main: u64,
+    kinds: &[StepKind],
+    count: usize,
+) -> Result<bool, NoMemory>
     requires count { count ≤ length kinds.now }
     requires known { main + length kinds.now ≡ length known.now.list }
-    ensures { result ≡ ends_new count (take main known.now.list) (noted_of kinds.now (drop main known.now.list)) }
+    ensures { IfOk result (λ new. new ≡ ends_new count (take main known.now.list) (noted_of kinds.now (drop main known.now.list))) }
 {
-    for step in kinds.len() - count..kinds.len() {
-        if !is_new(known, main, kinds, step) {
-            return false;
+    let first = kinds.len() - count;
+    let mut index = index_earlier(alloc, known, main, kinds, first)?;
+    for step in first..kinds.len() {
+        if !add_new(&mut index, known, main, kinds, step) {
+            return Ok(false);
         }
     }
-    true
+    Ok(true)
 }

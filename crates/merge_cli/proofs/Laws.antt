@@ -1,6 +1,7 @@
 -- The rows of the table of answers are apart.
-use Rattle.std.proofs.Common.{◌≡◌, ◌≢◌, ℕ, List, length, arith, subst, sym, ap, ◌∙◌}
-use Rattle.std.specs.Prelude.{Option, slice_index}
+use Rattle.std.proofs.Common.{◌≡◌, ◌≢◌, ℕ, List, length, arith, subst, sym, ap, refl, ◌∙◌}
+use Rattle.std.specs.Prelude.{Option, slice_index, decimal}
+use Rattle.std.proofs.lemmas.Fmt.{decimal_injective}
 use Rattle.edge.specs.Streams.{Exceeds}
 use Rattle.merge_model.specs.declared.problem.Problem.{Problem}
 use Rattle.merge_model.specs.Answers.{profile_of}
@@ -11,9 +12,10 @@ use Rattle.merge_model.specs.declared.operator.DistanceName.{DistanceName}
 use Rattle.merge_model.specs.declared.operator.AggregatorName.{AggregatorName}
 use Rattle.problem_reading.specs.declared.stop.TextFault.{TextFault}
 use Rattle.merge_cli.specs.declared.commands.Command.{Command}
-use Rattle.merge_cli.specs.declared.commands.Command.TheVariants.{Merge}
-use Rattle.merge_cli.specs.Commands.{IsCommand, IsNoCommand, limit_of, Reads, ReadsProblem}
-use Rattle.merge_cli.specs.Merge.{not_built, merged, inconsistent}
+use Rattle.merge_cli.specs.declared.commands.Command.TheVariants.{Merge, Check}
+use Rattle.merge_cli.specs.Commands.{IsMerge, unstated, stated, merge_words, IsCommand, IsNoCommand, limit_of, Reads, ReadsProblem}
+use Rattle.merge_cli.specs.Check.{CheckAnswers, accepted, wrong}
+use Rattle.merge_cli.specs.Merge.{merged, inconsistent, gave_up}
 use Rattle.merge_cli.specs.Refusals.{refusal_text, too_long_text}
 use Rattle.merge_cli.specs.Rows.{ReadAnswers, too_long, of_text, ProblemTextAnswers, refused, of_problem}
 use Rattle.merge_cli.specs.Answers.{ProblemAnswers, TextAnswers, CommandAnswers, Answers, refused_words, of_command, IsTooMuch}
@@ -22,23 +24,28 @@ use Rattle.merge_cli.proofs.Problems.{merge_lacks, merge_lacks_none}
 -- The commands, one case each.
 
 pub reads_text : (command : Command) → ReadsProblem command → Reads command
-reads_text (Merge d a) reads = tt
+reads_text (Merge d a b) reads = tt
+reads_text Check reads = tt
 
 pub reading_row : (command : Command) (now : Option (List ℕ)) (read : List ℕ) (status : ℕ) (text : List ℕ) → Reads command
     → CommandAnswers command now read status text → ReadAnswers (limit_of command) (TextAnswers command) now read status text
-reading_row (Merge d a) now read s text reads row = row
+reading_row (Merge d a b) now read s text reads row = row
+reading_row Check now read s text reads row = row
 
 pub text_row : (command : Command) (read : List ℕ) (status : ℕ) (text : List ℕ) → ReadsProblem command
     → TextAnswers command read status text → ProblemTextAnswers (ProblemAnswers command) read status text
-text_row (Merge d a) read s text reads row = row
+text_row (Merge d a b) read s text reads row = row
+text_row Check read s text reads row = absurd reads
 
 pub lacks : (command : Command) (problem : Problem) (status : ℕ) (text : List ℕ) → ProblemAnswers command problem status text
     → status ≡ 8 → LacksModel (profile_of problem)
-lacks (Merge d a) = merge_lacks d a
+lacks (Merge d a b) p s text row = merge_lacks _ p s text row
+lacks Check p s text row = absurd row
 
 pub lacks_none : (command : Command) (problem : Problem) (status : ℕ) (text : List ℕ) → ProblemAnswers command problem status text
     → status ≡ 0 → LacksModel (profile_of problem) → ⊥
-lacks_none (Merge d a) = merge_lacks_none d a
+lacks_none (Merge d a b) p s text row = merge_lacks_none _ p s text row
+lacks_none Check p s text row = absurd row
 
 -- a status that a command answers: not that of refused words, and none that stops a run
 pub record IsOwn (status : ℕ) : Type 0 where
@@ -48,36 +55,58 @@ pub record IsOwn (status : ℕ) : Type 0 where
   pub not_memory : status ≢ 6
 
 own_problem : (command : Command) (problem : Problem) (status : ℕ) (text : List ℕ) → ProblemAnswers command problem status text → IsOwn status
-own_problem (Merge d a) p s text (not_built many status said) =
+own_problem (Merge d a b) p s text (merged status reports) =
     record { not_words = λ e. omega arith; not_read = λ e. omega arith; not_written = λ e. omega arith; not_memory = λ e. omega arith }
-own_problem (Merge d a) p s text (merged few status reports) =
+own_problem (Merge d a b) p s text (inconsistent status reports) =
     record { not_words = λ e. omega arith; not_read = λ e. omega arith; not_written = λ e. omega arith; not_memory = λ e. omega arith }
-own_problem (Merge d a) p s text (inconsistent few status reports) =
+own_problem (Merge d a b) p s text (gave_up status reports) =
+    record { not_words = λ e. omega arith; not_read = λ e. omega arith; not_written = λ e. omega arith; not_memory = λ e. omega arith }
+own_problem Check p s text row = absurd row
+
+own_checked : (read : List ℕ) (status : ℕ) (text : List ℕ) → CheckAnswers read status text → IsOwn status
+own_checked read s text (accepted k is true status said) =
+    record { not_words = λ e. omega arith; not_read = λ e. omega arith; not_written = λ e. omega arith; not_memory = λ e. omega arith }
+own_checked read s text (wrong line k is status said) =
     record { not_words = λ e. omega arith; not_read = λ e. omega arith; not_written = λ e. omega arith; not_memory = λ e. omega arith }
 
 -- a problem is not answered as a text is that is too long or has a fault
 pub not_refused : (command : Command) (problem : Problem) (status : ℕ) (text : List ℕ) → ProblemAnswers command problem status text
     → status ≡ 1 → (text ≢ too_long_text) × ((fault : TextFault) → text ≢ refusal_text fault)
-not_refused (Merge d a) p s text (not_built many status said) one = absurd (omega arith)
-not_refused (Merge d a) p s text (merged few status reports) one = absurd (omega arith)
-not_refused (Merge d a) p s text (inconsistent few status reports) one = absurd (omega arith)
-
--- From here on no proof of a problem command speaks of one command.
+not_refused (Merge d a b) p s text (merged status reports) one = absurd (omega arith)
+not_refused (Merge d a b) p s text (inconsistent status reports) one = absurd (omega arith)
+not_refused (Merge d a b) p s text (gave_up status reports) one = absurd (omega arith)
+not_refused Check p s text row one = absurd row
 
 own_refusal : (status : ℕ) → status ≡ 1 → IsOwn status
 own_refusal s one = record { not_words = λ e. omega arith; not_read = λ e. omega arith; not_written = λ e. omega arith; not_memory = λ e. omega arith }
 
-own_text : (command : Command) (read : List ℕ) (status : ℕ) (text : List ℕ) → ProblemTextAnswers (ProblemAnswers command) read status text → IsOwn status
-own_text command read s text (refused fault first status said) = own_refusal s status
-own_text command read s text (of_problem p spelled row) = own_problem command p s text row
+own_problem_text : (command : Command) (read : List ℕ) (status : ℕ) (text : List ℕ) → ProblemTextAnswers (ProblemAnswers command) read status text → IsOwn status
+own_problem_text command read s text (refused fault first status said) = own_refusal s status
+own_problem_text command read s text (of_problem p spelled row) = own_problem command p s text row
 
-own_reading : (command : Command) (now : Option (List ℕ)) (read : List ℕ) (status : ℕ) (text : List ℕ) → ReadsProblem command
+own_text : (command : Command) (read : List ℕ) (status : ℕ) (text : List ℕ) → TextAnswers command read status text → IsOwn status
+own_text (Merge d a b) read s text row = own_problem_text (Merge d a b) read s text row
+own_text Check read s text row = own_checked read s text row
+
+own_reading : (command : Command) (now : Option (List ℕ)) (read : List ℕ) (status : ℕ) (text : List ℕ)
     → ReadAnswers (limit_of command) (TextAnswers command) now read status text → IsOwn status
-own_reading command now read s text reads (too_long long status said) = own_refusal s status
-own_reading command now read s text reads (of_text end few row) = own_text command read s text (text_row command read s text reads row)
+own_reading command now read s text (too_long long status said) = own_refusal s status
+own_reading command now read s text (of_text end few row) = own_text command read s text row
 
 own_command : (command : Command) (now : Option (List ℕ)) (read : List ℕ) (status : ℕ) (text : List ℕ) → CommandAnswers command now read status text → IsOwn status
-own_command (Merge d a) now read s text row = own_reading (Merge d a) now read s text tt row
+own_command (Merge d a b) now read s text row = own_reading (Merge d a b) now read s text row
+own_command Check now read s text row = own_reading Check now read s text row
+
+-- a refusal that names a line is another text than `too long`
+pub names_a_line : (fault : TextFault) → too_long_text ≢ refusal_text fault
+names_a_line fault same = let colon : 58 ≡ 32 = ap (λ (text : List ℕ). slice_index text 7) same in omega (arith, colon)
+
+-- only a text that is too long is said to be
+not_long : (command : Command) (read : List ℕ) (status : ℕ) (text : List ℕ) → TextAnswers command read status text → status ≡ 1 → text ≢ too_long_text
+not_long (Merge d a b) read s text (refused fault first status said) one = λ says. names_a_line fault (sym says ∙ said)
+not_long (Merge d a b) read s text (of_problem p spelled row) one = (not_refused (Merge d a b) p s text row one).0
+not_long Check read s text (accepted k is true status said) one = absurd (omega arith)
+not_long Check read s text (wrong line k is status said) one = absurd (omega arith)
 
 pub refused_comes : (words : List (List ℕ)) (now : Option (List ℕ)) (read : List ℕ) (status : ℕ) (text : List ℕ)
     → Answers words now read status text → IsNoCommand words → status ≡ 2
@@ -96,27 +125,21 @@ no_stop words now read s text (refused_words none unread two said) = (λ e. omeg
 no_stop words now read s text (of_command command of row) =
     let own = own_command command now read s text row in (own.not_read, own.not_written, own.not_memory)
 
--- a refusal that names a line is another text than `too long`
-pub names_a_line : (fault : TextFault) → too_long_text ≢ refusal_text fault
-names_a_line fault same = let colon : 58 ≡ 32 = ap (λ (text : List ℕ). slice_index text 7) same in omega (arith, colon)
-
-too_long_reading : (command : Command) (now : Option (List ℕ)) (read : List ℕ) (status : ℕ) (text : List ℕ) → ReadsProblem command
+too_long_reading : (command : Command) (now : Option (List ℕ)) (read : List ℕ) (status : ℕ) (text : List ℕ)
     → ReadAnswers (limit_of command) (TextAnswers command) now read status text → status ≡ 1 → text ≡ too_long_text → Exceeds (limit_of command) (length read)
-too_long_reading command now read s text reads (too_long long status said) one says = long
-too_long_reading command now read s text reads (of_text end few row) one says =
-    absurd (elim (text_row command read s text reads row) [
-      | refused fault first status said ↦ names_a_line fault (sym says ∙ said)
-      | of_problem p spelled answer ↦ (not_refused command p s text answer one).0 says
-    ])
+too_long_reading command now read s text (too_long long status said) one says = long
+too_long_reading command now read s text (of_text end few row) one says = absurd (not_long command read s text row one says)
 
 too_long_command : (command : Command) (now : Option (List ℕ)) (read : List ℕ) (status : ℕ) (text : List ℕ)
     → CommandAnswers command now read status text → status ≡ 1 → text ≡ too_long_text → Exceeds (limit_of command) (length read)
-too_long_command (Merge d a) now read s text row = too_long_reading (Merge d a) now read s text tt row
+too_long_command (Merge d a b) now read s text row = too_long_reading (Merge d a b) now read s text row
+too_long_command Check now read s text row = too_long_reading Check now read s text row
 
 long_command : (command : Command) (now : Option (List ℕ)) (read : List ℕ) (status : ℕ) (text : List ℕ)
     → CommandAnswers command now read status text → Exceeds (limit_of command) (length read) → (status ≡ 1) × (text ≡ too_long_text)
-long_command (Merge d a) now read s text (too_long long status said) longer = (status, said)
-long_command (Merge d a) now read s text (of_text end few row) longer = absurd (few longer)
+long_command (Merge d a b) now read s text (too_long long status said) longer = (status, said)
+long_command (Merge d a b) now read s text (of_text end few row) longer = absurd (few longer)
+long_command Check now read s text row longer = absurd longer
 
 pub too_long_only : (words : List (List ℕ)) (now : Option (List ℕ)) (read : List ℕ) (status : ℕ) (text : List ℕ)
     → Answers words now read status text → status ≡ 1 → text ≡ too_long_text → IsTooMuch words (length read)
@@ -124,11 +147,37 @@ too_long_only words now read s text (refused_words none unread two said) one say
 too_long_only words now read s text (of_command command of row) one says = (command, of, too_long_command command now read s text row one says)
 
 -- words are those of one command at most
-one_command : (words : List (List ℕ)) (command other : Command) → IsCommand words command → IsCommand words other → command ≡ other
-one_command words (Merge d a) (Merge e b) of of_other =
+same_merge : (d e : DistanceName) (a f : AggregatorName) (b c : ℕ) → merge_words d a ≡ merge_words e f → b ≡ c → Merge d a b ≡ Merge e f c
+same_merge d e a f b c words number =
     let distance : distance_word d ≡ distance_word e = cc in
-    let aggregator : aggregator_word a ≡ aggregator_word b = cc in
-    ap (λ (n : DistanceName). Merge n a) (one_distance d e distance) ∙ ap (λ (n : AggregatorName). Merge e n) (one_aggregator a b aggregator)
+    let aggregator : aggregator_word a ≡ aggregator_word f = cc in
+    ap (λ (n : DistanceName). Merge n a b) (one_distance d e distance) ∙ ap (λ (n : AggregatorName). Merge e n b) (one_aggregator a f aggregator) ∙ ap (λ (n : ℕ). Merge e f n) number
+
+one_merge : (words : List (List ℕ)) (d e : DistanceName) (a f : AggregatorName) (b c : ℕ) → IsMerge words d a b → IsMerge words e f c → Merge d a b ≡ Merge e f c
+one_merge words d e a f b c (unstated is usual) (unstated is_other usual_other) = same_merge d e a f b c (sym is ∙ is_other) (usual ∙ sym usual_other)
+one_merge words d e a f b c (unstated is usual) (stated is_other few) =
+    absurd (let three : 3 ≡ 4 = ap (λ (ws : List (List ℕ)). length ws) (sym is ∙ is_other) in omega (arith, three))
+one_merge words d e a f b c (stated is few) (unstated is_other usual) =
+    absurd (let four : 4 ≡ 3 = ap (λ (ws : List (List ℕ)). length ws) (sym is ∙ is_other) in omega (arith, four))
+one_merge words d e a f b c (stated is few) (stated is_other few_other) =
+    let same = sym is ∙ is_other in
+    let distance : distance_word d ≡ distance_word e = cc in
+    let aggregator : aggregator_word a ≡ aggregator_word f = cc in
+    let number : decimal b ≡ decimal c = cc in
+    ap (λ (n : DistanceName). Merge n a b) (one_distance d e distance) ∙ ap (λ (n : AggregatorName). Merge e n b) (one_aggregator a f aggregator)
+    ∙ ap (λ (n : ℕ). Merge e f n) (decimal_injective b c (omega arith) (omega arith) number)
+
+merge_is_no_check : (words : List (List ℕ)) (d : DistanceName) (a : AggregatorName) (b : ℕ) → IsMerge words d a b → IsCommand words Check → ⊥
+merge_is_no_check words d a b (unstated is usual) check =
+    let three : 3 ≡ 1 = ap (λ (ws : List (List ℕ)). length ws) (sym is ∙ check) in omega (arith, three)
+merge_is_no_check words d a b (stated is few) check =
+    let four : 4 ≡ 1 = ap (λ (ws : List (List ℕ)). length ws) (sym is ∙ check) in omega (arith, four)
+
+one_command : (words : List (List ℕ)) (command other : Command) → IsCommand words command → IsCommand words other → command ≡ other
+one_command words (Merge d a b) (Merge e f c) of of_other = one_merge words d e a f b c of of_other
+one_command words (Merge d a b) Check of of_other = absurd (merge_is_no_check words d a b of of_other)
+one_command words Check (Merge e f c) of of_other = absurd (merge_is_no_check words e f c of_other of)
+one_command words Check Check of of_other = refl
 
 -- the row of the table that a run of this command has
 pub row_of : (words : List (List ℕ)) (command : Command) (now : Option (List ℕ)) (read : List ℕ) (status : ℕ) (text : List ℕ)

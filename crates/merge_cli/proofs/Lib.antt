@@ -1,7 +1,8 @@
+pub mod OneKind
 pub mod Laws
 pub mod Problems
 pub mod Replies
-pub mod ReportTexts
+pub mod Reported
 pub mod SameProblems
 pub mod Told
 pub mod WordLists

@@ -1,6 +1,6 @@
 -- What is answered to a problem, and to what was read.
-use Rattle.std.proofs.Common.{◌≡◌, ◌≤◌, ℕ, List, length, inl, inr, arith}
-use Rattle.std.specs.Prelude.{◌⊎◌, Result, Ok, Err, IfOk}
+use Rattle.std.proofs.Common.{◌≡◌, ℕ, List, subst, ap, ◌∙◌, refl, arith}
+use Rattle.std.specs.Prelude.{Result, Ok, Err, IfOk}
 use Rattle.merge_model.specs.declared.operator.DistanceName.{DistanceName}
 use Rattle.merge_model.specs.declared.operator.AggregatorName.{AggregatorName}
 use Rattle.merge_model.specs.declared.answer.Answer.{Answer}
@@ -12,24 +12,63 @@ use Rattle.merge_model.proofs.Namings.{names_lack, right_has}
 use Rattle.problem_reading.specs.declared.stop.TextStop.{TextStop}
 use Rattle.problem_reading.specs.declared.stop.TextStop.TheVariants.{Fault, NoMemory}
 use Rattle.problem_reading.specs.Spelling.{Spelled, StopsText}
+use Rattle.report_lines.specs.declared.report.Report.{Report}
+use Rattle.report_lines.specs.Parts.{Asked, HasForm, report_text}
+use Rattle.report_lines.specs.Reports.{asked_in, parts_in}
+use Rattle.merge_cli.specs.StandIn.{IsBorneOutBy, IsTruthfulBy}
 use Rattle.merge_cli.specs.declared.reply.Reply.{Reply}
-use Rattle.merge_cli.specs.Merge.{built_limit, MergeAnswers, status_of, answer_report, merged, inconsistent, not_built}
+use Rattle.merge_cli.specs.Merge.{MergeAnswers, status_of, merged, inconsistent, gave_up}
 use Rattle.merge_cli.specs.Refusals.{SaysStop}
 use Rattle.merge_cli.specs.Rows.{ProblemTextAnswers, refused, of_problem}
 
-pub merge_answered : (distance : DistanceName) (aggregator : AggregatorName) (problem : Problem) (answer : Answer) (status : ℕ) (text : List ℕ)
-    → length problem.atoms ≤ built_limit
-    → IsRight (dist_named distance problem.atoms) (rank_named aggregator) problem answer ⊎ IsNamed problem answer
-    → status ≡ status_of answer → text ≡ answer_report distance aggregator problem answer
-    → MergeAnswers distance aggregator problem status text
-merge_answered d a p (Merged best measure verdicts) s t few (inl right) status text =
-    merged few status (record { answer = Merged best measure verdicts; right = right; says = text })
-merge_answered d a p (Inconsistent constraint agents) s t few (inr named) status text =
-    inconsistent few status (record { answer = Inconsistent constraint agents; named = named; says = text })
-merge_answered d a p (Merged best measure verdicts) s t few (inr named) status text = absurd named
-merge_answered d a p (Inconsistent constraint agents) s t few (inl right) status text = absurd right
-merge_answered d a p GaveUp s t few (inl right) status text = absurd right
-merge_answered d a p GaveUp s t few (inr named) status text = absurd named
+-- the report on a problem answers it
+answered_by : (report : Report) (answer : Answer) (status : ℕ) (text : List ℕ) → HasForm (asked_in report) (parts_in report)
+    → IsBorneOutBy (asked_in report) (parts_in report) answer → IsTruthfulBy report answer
+    → status ≡ status_of answer → text ≡ report_text (asked_in report) (parts_in report)
+    → MergeAnswers (asked_in report) report.problem status text
+answered_by report (Merged best measure verdicts) s t form borne_out truth status text =
+    merged status (record {
+      parts = parts_in report;
+      report = record { form = form; spelled = text };
+      subject = refl;
+      accepted = borne_out;
+      right = truth;
+    })
+answered_by report (Inconsistent constraint agents) s t form borne_out truth status text =
+    inconsistent status (record {
+      parts = parts_in report;
+      report = record { form = form; spelled = text };
+      subject = refl;
+      accepted = borne_out;
+      named = truth;
+    })
+answered_by report GaveUp s t form borne_out truth status text =
+    gave_up status (record {
+      parts = parts_in report;
+      report = record { form = form; spelled = text };
+      subject = refl;
+      spent = borne_out.0;
+      few = borne_out.1;
+    })
+
+asked_by : DistanceName → AggregatorName → ℕ → Asked
+asked_by distance aggregator conflicts = record { distance = distance; aggregator = aggregator; conflicts = conflicts }
+
+same_asked : (d e : DistanceName) (a f : AggregatorName) (b c : ℕ) → d ≡ e → a ≡ f → b ≡ c → asked_by d a b ≡ asked_by e f c
+same_asked d e a f b c distance aggregator conflicts =
+    ap (λ (n : DistanceName). asked_by n a b) distance ∙ ap (λ (n : AggregatorName). asked_by e n b) aggregator ∙ ap (λ (n : ℕ). asked_by e f n) conflicts
+
+pub merge_answered : (distance : DistanceName) (aggregator : AggregatorName) (conflicts : ℕ) (problem : Problem) (report : Report) (status : ℕ) (text : List ℕ)
+    → report.distance ≡ distance → report.aggregator ≡ aggregator → report.conflicts ≡ conflicts → report.problem ≡ problem
+    → HasForm (asked_in report) (parts_in report) → IsBorneOutBy (asked_in report) (parts_in report) report.answer → IsTruthfulBy report report.answer
+    → status ≡ status_of report.answer → text ≡ report_text (asked_in report) (parts_in report)
+    → MergeAnswers (record { distance = distance; aggregator = aggregator; conflicts = conflicts }) problem status text
+unfolding asked_by
+merge_answered d a b p report s t distance aggregator conflicts problem form borne_out truth status text =
+    let P : Asked → Type 0 = λ asked. MergeAnswers asked p s t in
+    let Q : Problem → Type 0 = λ q. MergeAnswers (asked_in report) q s t in
+    subst P (same_asked report.distance d report.aggregator a report.conflicts b distance aggregator conflicts)
+    (subst Q problem (answered_by report report.answer s t form borne_out truth status text))
 
 -- a text that spells a problem is answered as the problem is, and another by its first fault
 module _ {E : Type 0} (answers : Problem → ℕ → List ℕ → Type 0) (read : List ℕ) where
@@ -59,14 +98,15 @@ right_lacks_none d a p (Merged best measure verdicts) right lacks =
 right_lacks_none d a p (Inconsistent constraint agents) right lacks = right
 right_lacks_none d a p GaveUp right lacks = right
 
-pub merge_lacks : (distance : DistanceName) (aggregator : AggregatorName) (problem : Problem) (status : ℕ) (text : List ℕ)
-    → MergeAnswers distance aggregator problem status text → status ≡ 8 → LacksModel (profile_of problem)
-merge_lacks d a p s text (not_built many status said) eight = absurd (omega arith)
-merge_lacks d a p s text (merged few status reports) eight = absurd (omega arith)
-merge_lacks d a p s text (inconsistent few status reports) eight = named_has p reports.answer reports.named
+pub merge_lacks : (asked : Asked) (problem : Problem) (status : ℕ) (text : List ℕ)
+    → MergeAnswers asked problem status text → status ≡ 8 → LacksModel (profile_of problem)
+merge_lacks asked p s text (merged status reports) eight = absurd (omega arith)
+merge_lacks asked p s text (gave_up status reports) eight = absurd (omega arith)
+merge_lacks asked p s text (inconsistent status reports) eight = named_has p reports.parts.answer reports.named
 
-pub merge_lacks_none : (distance : DistanceName) (aggregator : AggregatorName) (problem : Problem) (status : ℕ) (text : List ℕ)
-    → MergeAnswers distance aggregator problem status text → status ≡ 0 → LacksModel (profile_of problem) → ⊥
-merge_lacks_none d a p s text (not_built many status said) none lacks = absurd (omega arith)
-merge_lacks_none d a p s text (inconsistent few status reports) none lacks = absurd (omega arith)
-merge_lacks_none d a p s text (merged few status reports) none lacks = right_lacks_none d a p reports.answer reports.right lacks
+pub merge_lacks_none : (asked : Asked) (problem : Problem) (status : ℕ) (text : List ℕ)
+    → MergeAnswers asked problem status text → status ≡ 0 → LacksModel (profile_of problem) → ⊥
+merge_lacks_none asked p s text (inconsistent status reports) none lacks = absurd (omega arith)
+merge_lacks_none asked p s text (gave_up status reports) none lacks = absurd (omega arith)
+merge_lacks_none asked p s text (merged status reports) none lacks =
+    right_lacks_none asked.distance asked.aggregator p reports.parts.answer reports.right lacks

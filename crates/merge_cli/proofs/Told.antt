@@ -1,24 +1,32 @@
 -- What a run answers, and where its source tells its bytes, what it answers to them.
-use Rattle.std.proofs.Common.{◌≡◌, ◌≢◌, ◌≤◌, ◌+◌, ◌-◌, ◌↔◌, ℕ, List, ◌++◌, length, arith, subst, sym, ap, ◌∙◌, append-nil, length-append, inl, inr}
+use Rattle.std.proofs.Common.{◌≡◌, ◌≢◌, ◌≤◌, ◌+◌, ◌-◌, ◌^◌, ◌↔◌, ℕ, List, ◌++◌, length, arith, subst, sym, ap, ◌∙◌, append-nil, length-append, inl, inr}
 use Rattle.std.specs.Prelude.{◌⊎◌, Option, Some, None}
 use Rattle.std.specs.Io.KnownBytes.{Consumes, IsAtEnd}
 use Rattle.edge.specs.Streams.{Exceeds}
-use Rattle.merge_model.specs.declared.operator.DistanceName.{DistanceName}
-use Rattle.merge_model.specs.declared.operator.AggregatorName.{AggregatorName}
 use Rattle.merge_model.specs.declared.problem.Problem.{Problem}
 use Rattle.merge_model.specs.Answers.{profile_of}
 use Rattle.merge_model.specs.Merging.{LacksModel}
 use Rattle.problem_reading.specs.declared.stop.TextFault.{TextFault}
 use Rattle.problem_reading.specs.Spelling.{Spelled, FirstFault}
 use Rattle.problem_laws.proofs.TextLaws.{spelled_or_faulty}
+use Rattle.report_lines.specs.declared.kinds.Kind.{Kind}
+use Rattle.report_lines.specs.declared.kinds.RefusedKind.{RefusedKind}
+use Rattle.report_lines.specs.Judged.{IsAccepted, IsFirstWrong}
+use Rattle.report_lines.specs.Parts.{Asked}
+use Rattle.report_lines.specs.Places.{end_number}
+use Rattle.report_lines.proofs.NeverBoth.{never}
+use Rattle.report_lines.proofs.Once.{once}
 use Rattle.merge_cli.specs.declared.commands.Command.{Command}
-use Rattle.merge_cli.specs.declared.commands.Command.TheVariants.{Merge}
-use Rattle.merge_cli.specs.Commands.{IsCommand, IsNoCommand, limit_of, ReadsProblem}
-use Rattle.merge_cli.specs.Merge.{MergeAnswers, ReportsMerge, ReportsLack, not_built, merged, inconsistent}
+use Rattle.merge_cli.specs.declared.commands.Command.TheVariants.{Check}
+use Rattle.merge_cli.specs.Commands.{IsCommand, IsNoCommand, merge_of, limit_of, Reads, ReadsProblem}
+use Rattle.merge_cli.specs.Check.{accepted_text, wrong_line_text, IsTrueReport, CheckAnswers, accepted, wrong}
+use Rattle.merge_cli.specs.Merge.{MergeAnswers, ReportsMerge, ReportsLack, ReportsSpent, main_vars, merged, inconsistent, gave_up}
 use Rattle.merge_cli.specs.Refusals.{refusal_text, too_long_text}
 use Rattle.merge_cli.specs.Rows.{ReadAnswers, too_long, of_text, refused, of_problem}
-use Rattle.merge_cli.specs.Answers.{ProblemAnswers, TextAnswers, Answers, Answered, IsTooMuch, AsksText, AsksProblem}
+use Rattle.merge_cli.specs.Answers.{ProblemAnswers, TextAnswers, Answers, Answered, IsTooMuch, AsksText, AsksProblem, AsksCheck}
 use Rattle.merge_cli.proofs.Laws.{reads_text, reading_row, text_row, lacks, lacks_none, not_refused, refused_comes, refused_only, too_long_comes, too_long_only, names_a_line, row_of}
+use Rattle.merge_cli.proofs.OneKind.{one_kind, same_kind}
+use Rattle.merge_cli.proofs.Reported.{row_accepted, is_reported}
 use Rattle.merge_cli.proofs.SameProblems.{equal_problems, equal_refusals}
 
 exceeds_more : (limit : Option ℕ) (m n : ℕ) → m ≤ n → Exceeds limit m → Exceeds limit n
@@ -52,18 +60,52 @@ problem_row command bytes now s text p reads (of_text end few row) spelled =
       | of_problem q is answer ↦ (let P : Problem → Type 0 = λ r. ProblemAnswers command r s text in inr (subst P (equal_problems bytes q p is spelled) answer))
     ]
 
--- what `merge` answers with status 0, and with status 8
-merged_row : (d : DistanceName) (a : AggregatorName) (problem : Problem) (status : ℕ) (text : List ℕ)
-    → MergeAnswers d a problem status text → status ≡ 0 → ReportsMerge d a problem text
-merged_row d a p s text (not_built many status said) none = absurd (omega arith)
-merged_row d a p s text (inconsistent few status reports) none = absurd (omega arith)
-merged_row d a p s text (merged few status reports) none = reports
+-- what `merge` answers with each of its statuses
+merged_row : (asked : Asked) (problem : Problem) (status : ℕ) (text : List ℕ)
+    → MergeAnswers asked problem status text → status ≡ 0 → ReportsMerge asked problem text
+merged_row asked p s text (merged status reports) none = reports
+merged_row asked p s text (inconsistent status reports) none = absurd (omega arith)
+merged_row asked p s text (gave_up status reports) none = absurd (omega arith)
 
-lacking_row : (d : DistanceName) (a : AggregatorName) (problem : Problem) (status : ℕ) (text : List ℕ)
-    → MergeAnswers d a problem status text → status ≡ 8 → ReportsLack d a problem text
-lacking_row d a p s text (not_built many status said) eight = absurd (omega arith)
-lacking_row d a p s text (merged few status reports) eight = absurd (omega arith)
-lacking_row d a p s text (inconsistent few status reports) eight = reports
+lacking_row : (asked : Asked) (problem : Problem) (status : ℕ) (text : List ℕ)
+    → MergeAnswers asked problem status text → status ≡ 8 → ReportsLack asked problem text
+lacking_row asked p s text (merged status reports) eight = absurd (omega arith)
+lacking_row asked p s text (inconsistent status reports) eight = reports
+lacking_row asked p s text (gave_up status reports) eight = absurd (omega arith)
+
+spent_row : (asked : Asked) (problem : Problem) (status : ℕ) (text : List ℕ)
+    → MergeAnswers asked problem status text → status ≡ 3 → ReportsSpent asked problem text
+spent_row asked p s text (merged status reports) three = absurd (omega arith)
+spent_row asked p s text (inconsistent status reports) three = absurd (omega arith)
+spent_row asked p s text (gave_up status reports) three = reports
+
+-- the row of what was read that is neither too long nor has a fault
+problem_of_row : (command : Command) (now : Option (List ℕ)) (read : List ℕ) (status : ℕ) (text : List ℕ) → ReadsProblem command
+    → ReadAnswers (limit_of command) (TextAnswers command) now read status text → status ≢ 1 → (problem : Problem) × ProblemAnswers command problem status text
+problem_of_row command now read s text reads (too_long long one said) other = absurd (other one)
+problem_of_row command now read s text reads (of_text end few row) other =
+    elim (text_row command read s text reads row) [
+      | refused fault first one said ↦ absurd (other one)
+      | of_problem p spelled answer ↦ (p, answer)
+    ]
+
+-- what `check` answers
+accepted_row : (bytes : List ℕ) (status : ℕ) (text : List ℕ) (k : Kind) → CheckAnswers bytes status text → IsAccepted bytes k
+    → (status ≡ 0) × (text ≡ accepted_text k)
+accepted_row bytes s text k (accepted l is true status said) right = (status, said ∙ ap (λ (m : Kind). accepted_text m) (one_kind bytes l k is right))
+accepted_row bytes s text k (wrong line l is status said) right = absurd (never bytes k line l right is)
+
+accepted_only_row : (bytes : List ℕ) (status : ℕ) (text : List ℕ) (k : Kind) → CheckAnswers bytes status text → status ≡ 0 → text ≡ accepted_text k
+    → IsAccepted bytes k
+accepted_only_row bytes s text k (accepted l is true status said) none says = subst (λ (m : Kind). IsAccepted bytes m) (same_kind l k (sym said ∙ says)) is
+accepted_only_row bytes s text k (wrong line l is status said) none says = absurd (omega arith)
+
+wrong_row : (bytes : List ℕ) (status : ℕ) (text : List ℕ) (line : ℕ) (k : RefusedKind) → CheckAnswers bytes status text → IsFirstWrong bytes line k
+    → (status ≡ 7) × (text ≡ wrong_line_text line k)
+wrong_row bytes s text line k (accepted l is true status said) first = absurd (never bytes l line k is first)
+wrong_row bytes s text line k (wrong other l is status said) first =
+    let same = once bytes other line l k is first in
+    (status, said ∙ ap (λ (n : ℕ). wrong_line_text n l) same.0 ∙ ap (λ (m : RefusedKind). wrong_line_text line m) same.1)
 
 -- what a whole run says
 module _ (words : List (List ℕ)) (before now : Option (List ℕ)) (room_before room_now status : ℕ) (text : List ℕ)
@@ -85,9 +127,9 @@ module _ (words : List (List ℕ)) (before now : Option (List ℕ)) (room_before
         (subst (Exceeds (limit_of much.0)) (sym given) much.2)),
   )
 
-  pub at_end_run : (command : Command) → IsCommand words command → ReadsProblem command → ¬ (Exceeds (limit_of command) (room_before - room_now)) → IsAtEnd now
+  pub at_end_run : (command : Command) → IsCommand words command → Reads command → ¬ (Exceeds (limit_of command) (room_before - room_now)) → IsAtEnd now
   at_end_run command of reads few =
-      elim (reading_row command now answered.read status text (reads_text command reads) (row_of words command now answered.read status text of answered.answers)) [
+      elim (reading_row command now answered.read status text reads (row_of words command now answered.read status text of answered.answers)) [
         | too_long long one said ↦ absurd (few (subst (Exceeds (limit_of command)) given long))
         | of_text end short row ↦ end
       ]
@@ -144,8 +186,56 @@ module _ (words : List (List ℕ)) (before now : Option (List ℕ)) (room_before
   not_merged_run command problem asks lack = λ none.
       lacks_none command problem status text (asked_row command problem asks (λ one. omega arith)) none lack
 
-  pub merged_run : (d : DistanceName) (a : AggregatorName) (problem : Problem) → AsksProblem before words (Merge d a) problem → status ≡ 0 → ReportsMerge d a problem text
-  merged_run d a problem asks none = merged_row d a problem status text (asked_row (Merge d a) problem asks (λ one. omega arith)) none
+  pub merged_run : (asked : Asked) (problem : Problem) → AsksProblem before words (merge_of asked) problem → status ≡ 0 → ReportsMerge asked problem text
+  merged_run asked problem asks none = merged_row asked problem status text (asked_row (merge_of asked) problem asks (λ one. omega arith)) none
 
-  pub inconsistent_run : (d : DistanceName) (a : AggregatorName) (problem : Problem) → AsksProblem before words (Merge d a) problem → status ≡ 8 → ReportsLack d a problem text
-  inconsistent_run d a problem asks eight = lacking_row d a problem status text (asked_row (Merge d a) problem asks (λ one. omega arith)) eight
+  pub inconsistent_run : (asked : Asked) (problem : Problem) → AsksProblem before words (merge_of asked) problem → status ≡ 8 → ReportsLack asked problem text
+  inconsistent_run asked problem asks eight = lacking_row asked problem status text (asked_row (merge_of asked) problem asks (λ one. omega arith)) eight
+
+  pub gave_up_run : (asked : Asked) (problem : Problem) → AsksProblem before words (merge_of asked) problem → status ≡ 3 → ReportsSpent asked problem text
+  gave_up_run asked problem asks three = spent_row asked problem status text (asked_row (merge_of asked) problem asks (λ one. omega arith)) three
+
+  pub ample_run : (asked : Asked) (problem : Problem) → AsksProblem before words (merge_of asked) problem → 3 ^ main_vars asked problem ≤ asked.conflicts → status ≢ 3
+  ample_run asked problem asks ample = λ three. let reports = gave_up_run asked problem asks three in omega (arith, reports.few, ample)
+
+  pub reported_run : (asked : Asked) → IsCommand words (merge_of asked) → status ≢ 1 → (problem : Problem) × MergeAnswers asked problem status text
+  reported_run asked of other =
+      problem_of_row (merge_of asked) now answered.read status text tt
+      (reading_row (merge_of asked) now answered.read status text tt (row_of words (merge_of asked) now answered.read status text of answered.answers)) other
+
+  pub accepted_run : (asked : Asked) (k : Kind) → IsCommand words (merge_of asked) → status ≡ end_number k → IsAccepted text k
+  accepted_run asked k of is =
+      let reports = reported_run asked of (is_reported k status is).not_refused in
+      row_accepted asked reports.0 status text k reports.1 is
+
+  pub told_check_run : (bytes : List ℕ) → AsksCheck before words bytes → CheckAnswers bytes status text
+  told_check_run bytes asks =
+      let P : Option (List ℕ) → Type 0 = λ left. Consumes left now answered.read in
+      elim (row_of_all (limit_of Check) (TextAnswers Check) bytes now answered.read status text (subst P asks.0 answered.gave.known)
+      (reading_row Check now answered.read status text tt (row_of words Check now answered.read status text asks.1 answered.answers))) [
+        | too_long long one said ↦ absurd long
+        | of_text end few row ↦ row
+      ]
+
+  pub checked_run : (bytes : List ℕ) → AsksCheck before words bytes → (k : Kind) → ((status ≡ 0) × (text ≡ accepted_text k)) ↔ IsAccepted bytes k
+  checked_run bytes asks k = (
+    (λ said. accepted_only_row bytes status text k (told_check_run bytes asks) said.0 said.1),
+    accepted_row bytes status text k (told_check_run bytes asks),
+  )
+
+  pub checked_true_run : (bytes : List ℕ) → AsksCheck before words bytes → status ≡ 0 → (k : Kind) × (text ≡ accepted_text k) × IsTrueReport bytes k
+  checked_true_run bytes asks none = elim (told_check_run bytes asks) [
+    | accepted k is true one said ↦ (k, said, true)
+    | wrong line l is one said ↦ absurd (omega arith)
+  ]
+
+  pub refused_report_only_run : (bytes : List ℕ) → AsksCheck before words bytes → status ≡ 7
+      → (line : ℕ) × (k : RefusedKind) × IsFirstWrong bytes line k × (text ≡ wrong_line_text line k)
+  refused_report_only_run bytes asks seven = elim (told_check_run bytes asks) [
+    | accepted l is true one said ↦ absurd (omega arith)
+    | wrong line l is one said ↦ (line, l, is, said)
+  ]
+
+  pub refused_report_run : (bytes : List ℕ) → AsksCheck before words bytes → (line : ℕ) (k : RefusedKind) → IsFirstWrong bytes line k
+      → (status ≡ 7) × (text ≡ wrong_line_text line k)
+  refused_report_run bytes asks line k first = wrong_row bytes status text line k (told_check_run bytes asks) first

@@ -4,18 +4,22 @@ use Rattle.edge.specs.Streams.{Exceeds, Gave}
 use Rattle.merge_model.specs.declared.problem.Problem.{Problem}
 use Rattle.problem_reading.specs.Spelling.{Spelled}
 use Rattle.merge_cli.specs.declared.commands.Command.{Command}
-use Rattle.merge_cli.specs.declared.commands.Command.TheVariants.{Merge}
+use Rattle.merge_cli.specs.declared.commands.Command.TheVariants.{Merge, Check}
 use Rattle.merge_cli.specs.Commands.{IsCommand, IsNoCommand, limit_of, Reads, ReadsProblem}
+use Rattle.merge_cli.specs.Check.{CheckAnswers}
 use Rattle.merge_cli.specs.Merge.{MergeAnswers}
 use Rattle.merge_cli.specs.Rows.{ReadAnswers, ProblemTextAnswers}
 
--- what a command answers to a problem
+-- what a command answers to a problem; `check` reads none
 abbrev pub ProblemAnswers : Command → Problem → ℕ → List ℕ → Type 0
-ProblemAnswers (Merge distance aggregator) = MergeAnswers distance aggregator
+ProblemAnswers (Merge distance aggregator conflicts) =
+    MergeAnswers (record { distance = distance; aggregator = aggregator; conflicts = conflicts })
+ProblemAnswers Check = λ problem status text. ⊥
 
 -- what a command answers to a text that it read to its end
 abbrev pub TextAnswers : Command → List ℕ → ℕ → List ℕ → Type 0
-TextAnswers (Merge distance aggregator) = ProblemTextAnswers (ProblemAnswers (Merge distance aggregator))
+TextAnswers (Merge distance aggregator conflicts) = ProblemTextAnswers (ProblemAnswers (Merge distance aggregator conflicts))
+TextAnswers Check = CheckAnswers
 
 -- A table of answers: what the source tells after the run, what was read, the status and the text.
 abbrev pub Table : Type 1
@@ -23,8 +27,9 @@ Table = Option (List ℕ) → List ℕ → ℕ → List ℕ → Type 0
 
 -- what a command answers to what it read
 abbrev pub CommandAnswers : Command → Table
-CommandAnswers (Merge distance aggregator) =
-    ReadAnswers (limit_of (Merge distance aggregator)) (TextAnswers (Merge distance aggregator))
+CommandAnswers (Merge distance aggregator conflicts) =
+    ReadAnswers (limit_of (Merge distance aggregator conflicts)) (TextAnswers (Merge distance aggregator conflicts))
+CommandAnswers Check = ReadAnswers (limit_of Check) (TextAnswers Check)
 
 -- the answers to any words
 pub data Answers (words : List (List ℕ)) (now : Option (List ℕ)) (read : List ℕ) (status : ℕ) (text : List ℕ) : Type 0 where
@@ -56,3 +61,7 @@ AsksText left words command bytes = (left ≡ Some bytes) × IsCommand words com
 -- so, and the bytes spell this problem
 abbrev pub AsksProblem : Option (List ℕ) → List (List ℕ) → Command → Problem → Type 0
 AsksProblem left words command problem = (bytes : List ℕ) × AsksText left words command bytes × Spelled bytes problem
+
+-- the source tells these bytes, and the words are those of a check
+abbrev pub AsksCheck : Option (List ℕ) → List (List ℕ) → List ℕ → Type 0
+AsksCheck left words bytes = (left ≡ Some bytes) × IsCommand words Check

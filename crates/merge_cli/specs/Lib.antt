@@ -1,8 +1,9 @@
 pub mod Answers
+pub mod Check
 pub mod Commands
 pub mod Merge
 pub mod Refusals
-pub mod ReportLines
 pub mod Rows
+pub mod StandIn
 pub use Rattle.edge.specs.Faults
 pub use Rattle.edge.specs.Streams

@@ -1,25 +1,12 @@
 -- What `merge` answers to a problem.
-use Rattle.std.specs.Prelude.{◌≡◌, ℕ, ◌<◌, ◌≤◌, List, length, codes}
-use Rattle.merge_model.specs.declared.operator.DistanceName.{DistanceName}
-use Rattle.merge_model.specs.declared.operator.AggregatorName.{AggregatorName}
+use Rattle.std.specs.Prelude.{◌≡◌, ℕ, ◌<◌, ◌^◌, List}
 use Rattle.merge_model.specs.declared.answer.Answer.{Answer}
 use Rattle.merge_model.specs.declared.answer.Answer.TheVariants.{Merged, Inconsistent, GaveUp}
 use Rattle.merge_model.specs.declared.problem.Problem.{Problem}
 use Rattle.merge_model.specs.Answers.{dist_named, rank_named, IsRight, IsNamed}
-use Rattle.merge_cli.specs.ReportLines.{report_text}
-
--- the most atoms of a problem that is answered so far
-abbrev pub built_limit : ℕ
-built_limit = 8
-
--- the number of conflicts that a report names where no word gives one
-abbrev pub usual_conflicts : ℕ
-usual_conflicts = 100000
-
--- the text of the answer to a problem
-abbrev pub answer_report : DistanceName → AggregatorName → Problem → Answer → List ℕ
-answer_report distance aggregator problem answer =
-    report_text distance aggregator usual_conflicts problem answer
+use Rattle.report_lines.specs.Accepted.{Parts, AreAccepted, main_of}
+use Rattle.report_lines.specs.Operators.{operator_named}
+use Rattle.report_lines.specs.Parts.{Asked, operator_of, HasParts, AreSpent}
 
 -- the status that tells what an answer is
 abbrev pub status_of : Answer → ℕ
@@ -27,26 +14,37 @@ status_of (Merged best measure verdicts) = 0
 status_of (Inconsistent constraint agents) = 8
 status_of GaveUp = 3
 
--- the text reports a right merge of the problem
-pub record ReportsMerge (distance : DistanceName) (aggregator : AggregatorName) (problem : Problem) (text : List ℕ) : Type 0 where
-  pub answer : Answer
-  pub right : IsRight (dist_named distance problem.atoms) (rank_named aggregator) problem answer
-  pub says : text ≡ answer_report distance aggregator problem answer
+-- how many variables the main clauses of the problem have
+abbrev pub main_vars : Asked → Problem → ℕ
+main_vars asked problem = (main_of (operator_named asked.distance asked.aggregator problem.atoms) problem).vars
 
--- the text reports which formulas of the problem have a model and which have none
-pub record ReportsLack (distance : DistanceName) (aggregator : AggregatorName) (problem : Problem) (text : List ℕ) : Type 0 where
-  pub answer : Answer
-  pub named : IsNamed problem answer
-  pub says : text ≡ answer_report distance aggregator problem answer
+-- the text is an accepted report of a right merge of the problem
+pub record ReportsMerge (asked : Asked) (problem : Problem) (text : List ℕ) : Type 0 where
+  pub parts : Parts
+  pub report : HasParts text asked parts
+  pub subject : parts.problem ≡ problem
+  pub accepted : AreAccepted (operator_of asked parts) parts
+  pub right : IsRight (dist_named asked.distance problem.atoms) (rank_named asked.aggregator) problem parts.answer
+
+-- the text is an accepted report of which formulas of the problem have a model and which have none
+pub record ReportsLack (asked : Asked) (problem : Problem) (text : List ℕ) : Type 0 where
+  pub parts : Parts
+  pub report : HasParts text asked parts
+  pub subject : parts.problem ≡ problem
+  pub accepted : AreAccepted (operator_of asked parts) parts
+  pub named : IsNamed problem parts.answer
+
+-- the text is the report of a search on the problem that learned as many steps as it was given, which are fewer than the
+-- clauses that there are
+pub record ReportsSpent (asked : Asked) (problem : Problem) (text : List ℕ) : Type 0 where
+  pub parts : Parts
+  pub report : HasParts text asked parts
+  pub subject : parts.problem ≡ problem
+  pub spent : AreSpent asked parts
+  pub few : asked.conflicts < 3 ^ main_vars asked problem
 
 -- the answers to a problem
-pub data MergeAnswers (distance : DistanceName) (aggregator : AggregatorName) (problem : Problem) (status : ℕ) (text : List ℕ) : Type 0 where
-  not_built : built_limit < length problem.atoms
-      → status ≡ 9 → text ≡ codes "refused: not built\n"
-      → MergeAnswers distance aggregator problem status text
-  merged : length problem.atoms ≤ built_limit
-      → status ≡ 0 → ReportsMerge distance aggregator problem text
-      → MergeAnswers distance aggregator problem status text
-  inconsistent : length problem.atoms ≤ built_limit
-      → status ≡ 8 → ReportsLack distance aggregator problem text
-      → MergeAnswers distance aggregator problem status text
+pub data MergeAnswers (asked : Asked) (problem : Problem) (status : ℕ) (text : List ℕ) : Type 0 where
+  merged : status ≡ 0 → ReportsMerge asked problem text → MergeAnswers asked problem status text
+  inconsistent : status ≡ 8 → ReportsLack asked problem text → MergeAnswers asked problem status text
+  gave_up : status ≡ 3 → ReportsSpent asked problem text → MergeAnswers asked problem status text

@@ -22,9 +22,12 @@ kind_word TooDeep = codes "too-deep"
 kind_word NoAtoms = codes "no-atoms"
 kind_word NoAgent = codes "no-agent"
 
--- the line of a fault, and what is wrong with it
+-- a line, and what is wrong with it
+abbrev pub line_refusal_text : ℕ → List ℕ → List ℕ
+line_refusal_text line word = codes "refused line " ++ decimal line ++ codes ": " ++ word ++ codes "\n"
+
 abbrev pub refusal_of : ℕ → TextKind → List ℕ
-refusal_of line kind = codes "refused line " ++ decimal line ++ codes ": " ++ kind_word kind ++ codes "\n"
+refusal_of line kind = line_refusal_text line (kind_word kind)
 
 abbrev pub refusal_text : TextFault → List ℕ
 refusal_text fault = refusal_of fault.line fault.kind

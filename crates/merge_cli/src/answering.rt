@@ -1,57 +1,56 @@
 ghost use Rattle.std.specs.Prelude.{◌≡◌, IfOk};
 ghost use Rattle.merge_cli.specs.Answers.{ProblemAnswers, TextAnswers};
-ghost use Rattle.merge_cli.specs.Commands.{Reads, ReadsProblem};
+ghost use Rattle.merge_cli.specs.Commands.{IsProper, ReadsProblem};
 ghost use Rattle.merge_cli.specs.Refusals.{SaysFault, SaysStop};
 ghost use Rattle.merge_cli.specs.Rows.{ProblemTextAnswers};
 
+use crate::checking::check_reply;
 use crate::commands::Command;
 use crate::merging::merge_reply;
 use crate::refusal::refusal;
 use crate::reply::Reply;
 use crate::status::REFUSED;
 use edge::NoMemory;
-use merge_model::{AggregatorName, DistanceName, Problem};
+use merge_model::Problem;
 use problem_reading::{TextFault, TextStop, read_problem};
 use std::alloc::Global;
 
 /// What a command answers to a text that it read to its end.
 pub fn text_reply(alloc: Global, command: Command, bytes: &[u8]) -> Result<Reply, NoMemory>
-    requires { Reads command }
+    requires proper { IsProper command }
     ensures { IfOk result (λ reply. TextAnswers command bytes.now reply.status reply.text.items) }
 {
     match command {
-        Command::Merge(_, _) => problem_text_reply(alloc, command, bytes),
+        Command::Merge(..) => problem_text_reply(alloc, command, bytes),
+        Command::Check => check_reply(alloc, bytes),
     }
 }
 
 // What a command answers to a problem text.
 fn problem_text_reply(alloc: Global, command: Command, bytes: &[u8]) -> Result<Reply, NoMemory>
-    requires { ReadsProblem command }
+    requires proper { IsProper command }
+    requires problem { ReadsProblem command }
     ensures { IfOk result (λ reply. ProblemTextAnswers (ProblemAnswers command) bytes.now
         reply.status reply.text.items) }
 {
     match read_problem(alloc, bytes) {
-        Ok(problem) => problem_reply(alloc, command, &problem),
+        Ok(problem) => problem_reply(alloc, command, problem),
         Err(stop) => stop_reply(alloc, stop),
     }
 }
 
 // What a command answers to a problem.
-fn problem_reply(alloc: Global, command: Command, problem: &Problem) -> Result<Reply, NoMemory>
-    requires { ReadsProblem command }
-    ensures { IfOk result (λ reply. ProblemAnswers command problem.now
+fn problem_reply(alloc: Global, command: Command, problem: Problem) -> Result<Reply, NoMemory>
+    requires proper { IsProper command }
+    requires problem { ReadsProblem command }
+    ensures { IfOk result (λ reply. ProblemAnswers command problem
         reply.status reply.text.items) }
 {
-    let (distance, aggregator) = operators_of(command);
-    merge_reply(alloc, distance, aggregator, problem)
-}
-
-// The distance and the aggregator by which a command merges.
-fn operators_of(command: Command) -> (DistanceName, AggregatorName)
-    ensures { command ≡ Command.Merge result.0 result.1 }
-{
     match command {
-        Command::Merge(distance, aggregator) => (distance, aggregator),
+        Command::Merge(distance, aggregator, conflicts) => {
+            merge_reply(alloc, distance, aggregator, conflicts, problem)
+        }
+        Command::Check => unreachable!(),
     }
 }
 

@@ -2,14 +2,15 @@
 #![tactic(auto)]
 
 mod answering;
+mod checking;
 mod commands;
 mod exact;
 mod merging;
 mod reading;
 mod refusal;
 mod reply;
-mod report;
 /// The exit statuses.
+mod standin;
 pub mod status;
 #[cfg(test)]
 mod tests;
@@ -17,5 +18,4 @@ mod top;
 
 pub use commands::{Command, command_of};
 pub use exact::{lacking_is_exact, refused_words_are_exact, too_long_is_exact};
-pub use report::write_answer;
 pub use top::{Outcome, run};

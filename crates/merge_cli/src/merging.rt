@@ -1,43 +1,32 @@
 ghost use Rattle.std.specs.Prelude.{◌≡◌, IfOk};
+ghost use Rattle.merge_cli.specs.Commands.{IsBudget};
 ghost use Rattle.merge_cli.specs.Merge.{MergeAnswers, status_of};
 
-use crate::reply::{Reply, says};
-use crate::report::write_answer;
-use crate::status::{ANSWERED, GAVE_UP, LACKS_MODEL, NOT_BUILT};
+use crate::reply::Reply;
+use crate::standin::report_on;
+use crate::status::{ANSWERED, GAVE_UP, LACKS_MODEL};
 use edge::NoMemory;
-use merge_model::{AggregatorName, Answer, DistanceName, Problem, merge_named};
+use merge_model::{AggregatorName, Answer, DistanceName, Problem};
+use report_text::write_report;
 use std::alloc::Global;
-
-/// The number of conflicts that a report names where no word gives one.
-const USUAL_CONFLICTS: u64 = 100_000;
-
-/// How many atoms a problem that is answered may have.
-const BUILT_LIMIT: u32 = 8;
 
 /// What `merge` answers to a problem.
 pub fn merge_reply(
     alloc: Global,
     distance: DistanceName,
     aggregator: AggregatorName,
-    problem: &Problem,
+    conflicts: u64,
+    problem: Problem,
 ) -> Result<Reply, NoMemory>
-    ensures { IfOk result (λ reply. MergeAnswers distance aggregator problem.now
+    requires { IsBudget conflicts }
+    ensures { IfOk result (λ reply. MergeAnswers
+        (record { distance = distance; aggregator = aggregator; conflicts = conflicts }) problem
         reply.status reply.text.items) }
 {
-    if problem.atoms.len() > BUILT_LIMIT {
-        return says(alloc, NOT_BUILT, b"refused: not built\n");
-    }
-    let answer = merge_named(alloc, distance, aggregator, problem)?;
+    let report = report_on(alloc, distance, aggregator, conflicts, problem)?;
     let mut text = Vec::new(alloc);
-    write_answer(
-        distance,
-        aggregator,
-        USUAL_CONFLICTS,
-        problem,
-        &answer,
-        &mut text,
-    )?;
-    let status = status_for(&answer);
+    write_report(&report, &mut text)?;
+    let status = status_for(&report.answer);
     Ok(Reply { status, text })
 }
 

@@ -1,5 +1,5 @@
 ghost use Rattle.std.specs.Prelude.{◌≡◌, IfOk};
-ghost use Rattle.merge_cli.specs.Refusals.{kind_word, refusal_text};
+ghost use Rattle.merge_cli.specs.Refusals.{kind_word, line_refusal_text, refusal_text};
 
 use edge::NoMemory;
 use problem_reading::{TextFault, TextKind};
@@ -27,10 +27,18 @@ fn word_of_kind(kind: TextKind) -> &'static str
 pub fn refusal(alloc: Global, fault: TextFault) -> Result<Vec<u8>, NoMemory>
     ensures { IfOk result (λ text. text.items ≡ refusal_text fault) }
 {
+    line_refusal(alloc, fault.line, word_of_kind(fault.kind))
+}
+
+/// The text that names a line and says by a word what is wrong with it; `NoMemory` for want of
+/// memory.
+pub fn line_refusal(alloc: Global, line: u64, word: &str) -> Result<Vec<u8>, NoMemory>
+    ensures { IfOk result (λ text. text.items ≡ line_refusal_text line word.now) }
+{
     let mut text = Vec::from_slice(alloc, b"refused line")?;
-    write_number(fault.line, &mut text)?;
+    write_number(line, &mut text)?;
     write_bytes(b":", &mut text)?;
-    write_word(word_of_kind(fault.kind).as_bytes(), &mut text)?;
+    write_word(word.as_bytes(), &mut text)?;
     write_bytes(b"\n", &mut text)?;
     Ok(text)
 }

@@ -21,8 +21,8 @@ pub const WRITE_FAULT: u8 = 5;
 /// Memory was refused.
 pub const NO_MEMORY: u8 = 6;
 
+/// A report was refused.
+pub const REFUSED_REPORT: u8 = 7;
+
 /// The constraint or a base has no model.
 pub const LACKS_MODEL: u8 = 8;
-
-/// The text is that of a problem that is not answered so far.
-pub const NOT_BUILT: u8 = 9;

@@ -1,13 +1,17 @@
-ghost use Rattle.std.specs.Prelude.{◌≡◌, ◌≢◌, ◌⊎◌, ℕ, ◌<◌, ◌≤◌, ◌-◌, ◌↔◌};
+ghost use Rattle.std.specs.Prelude.{◌≡◌, ◌≢◌, ◌⊎◌, ℕ, ◌<◌, ◌≤◌, ◌-◌, ◌^◌, ◌↔◌};
 ghost use Rattle.std.specs.Prelude.{List, [], length, take, IfOk, OnErr, IsErrOf};
 ghost use Rattle.std.specs.Io.KnownBytes.{Appends, IsAtEnd};
 ghost use Rattle.edge.specs.Faults.{Rose};
 ghost use Rattle.edge.specs.Streams.{Exceeds, Gave};
-ghost use Rattle.merge_cli.specs.Commands.{IsCommand, IsNoCommand, limit_of, Reads, ReadsProblem};
+ghost use Rattle.merge_cli.specs.Commands.{IsCommand, IsNoCommand, IsProper, limit_of, Reads};
 ghost use Rattle.merge_cli.specs.Answers.{Answers, Answered, CommandAnswers, TextAnswers};
 ghost use Rattle.merge_cli.specs.Answers.{ProblemAnswers, IsReading, IsUnread, IsTooMuch};
 ghost use Rattle.merge_cli.specs.Answers.{AsksText, AsksProblem};
-ghost use Rattle.merge_cli.specs.Merge.{ReportsMerge, ReportsLack};
+ghost use Rattle.merge_cli.specs.Answers.{AsksCheck};
+ghost use Rattle.merge_cli.specs.Check.{CheckAnswers, IsTrueReport, accepted_text, wrong_line_text};
+ghost use Rattle.merge_cli.specs.Merge.{MergeAnswers, ReportsMerge, ReportsLack, ReportsSpent};
+ghost use Rattle.merge_cli.specs.Merge.{main_vars};
+ghost use Rattle.merge_cli.specs.Commands.{merge_of};
 ghost use Rattle.merge_cli.specs.Refusals.{refusal_text, too_long_text};
 ghost use Rattle.merge_cli.specs.Rows.{ReadAnswers};
 ghost use Rattle.merge_model.specs.declared.problem.Problem.{Problem};
@@ -15,8 +19,11 @@ ghost use Rattle.merge_model.specs.Answers.{profile_of};
 ghost use Rattle.merge_model.specs.Merging.{LacksModel};
 ghost use Rattle.problem_reading.specs.declared.stop.TextFault.{TextFault};
 ghost use Rattle.problem_reading.specs.Spelling.{Spelled, FirstFault};
-ghost use Rattle.merge_model.specs.declared.operator.DistanceName.{DistanceName};
-ghost use Rattle.merge_model.specs.declared.operator.AggregatorName.{AggregatorName};
+ghost use Rattle.report_lines.specs.declared.kinds.Kind.{Kind};
+ghost use Rattle.report_lines.specs.declared.kinds.RefusedKind.{RefusedKind};
+ghost use Rattle.report_lines.specs.Judged.{IsAccepted, IsFirstWrong};
+ghost use Rattle.report_lines.specs.Parts.{Asked};
+ghost use Rattle.report_lines.specs.Places.{end_number};
 
 use crate::commands::{Command, command_of};
 use crate::reading::read_reply;
@@ -38,6 +45,7 @@ pub struct Outcome {
 
 // What the command asks.
 fn command_reply<S: Source>(alloc: Global, command: Command, source: &mut S) -> Result<Reply, Stop>
+    requires { IsProper command }
     ensures ok { IfOk result (λ reply. Answered (CommandAnswers command)
         (S.left source.old) (S.left source.new) (S.room source.old) (S.room source.new)
         reply.status reply.text.items) }
@@ -51,7 +59,7 @@ fn command_reply<S: Source>(alloc: Global, command: Command, source: &mut S) -> 
     ensures unread { ¬ (Reads command) → source.new ≡ source.old }
 {
     match command {
-        Command::Merge(_, _) => read_reply(alloc, command, source),
+        Command::Merge(..) | Command::Check => read_reply(alloc, command, source),
     }
 }
 
@@ -81,9 +89,10 @@ fn reply<S: Source>(alloc: Global, words: &Words, source: &mut S) -> Result<Repl
 /// - 2: the words are those of no command; nothing is read.
 /// - 4: a read failed; there is no text and the sink is not called.
 /// - 1: the text is refused: it has more than 262,144 bytes, or its first fault is named.
-/// - 9: the text is that of a problem with more than 8 atoms, which is not answered so far.
+/// - 7: the text that was checked is no accepted report, and its first wrong line is named.
 /// - 8: the constraint or a base has no model; the text is the report that says which.
-/// - 0: the text is the report on the merged problem.
+/// - 3: a question of the search learned as many steps as it might; the text is the report of that.
+/// - 0: the text is the report on the merged problem, or says what kind of report was accepted.
 /// - 5: a write failed; the sink took the first `sent` bytes of the text.
 /// - 6: memory was refused, at any place before the sending; there is no text and the sink is not
 ///   called.
@@ -138,15 +147,51 @@ pub fn run<S: Source, K: Sink>(
         → AsksProblem (S.left source.old) words.now command problem
         → LacksModel (profile_of problem)
         → result.status ≢ 0 }
-    ensures merged { (distance : DistanceName) (aggregator : AggregatorName) (problem : Problem)
-        → AsksProblem (S.left source.old) words.now (Command.Merge distance aggregator) problem
+    ensures merged { (asked : Asked) (problem : Problem)
+        → AsksProblem (S.left source.old) words.now (merge_of asked) problem
         → result.status ≡ 0
-        → ReportsMerge distance aggregator problem result.text.items }
-    ensures inconsistent { (distance : DistanceName) (aggregator : AggregatorName)
-        (problem : Problem)
-        → AsksProblem (S.left source.old) words.now (Command.Merge distance aggregator) problem
+        → ReportsMerge asked problem result.text.items }
+    ensures inconsistent { (asked : Asked) (problem : Problem)
+        → AsksProblem (S.left source.old) words.now (merge_of asked) problem
         → result.status ≡ 8
-        → ReportsLack distance aggregator problem result.text.items }
+        → ReportsLack asked problem result.text.items }
+    ensures gave_up { (asked : Asked) (problem : Problem)
+        → AsksProblem (S.left source.old) words.now (merge_of asked) problem
+        → result.status ≡ 3
+        → ReportsSpent asked problem result.text.items }
+    ensures never_gives_up { (asked : Asked) (problem : Problem)
+        → AsksProblem (S.left source.old) words.now (merge_of asked) problem
+        → 3 ^ main_vars asked problem ≤ asked.conflicts
+        → result.status ≢ 3 }
+
+    // Whatever the source tells, a report is an accepted one of some problem, as the words ask for.
+    ensures reported { (asked : Asked) → IsCommand words.now (merge_of asked)
+        → result.status ≢ 1 → result.status ≢ 4 → result.status ≢ 5 → result.status ≢ 6
+        → (problem : Problem) × MergeAnswers asked problem result.status result.text.items }
+
+    // What `merge` reports is accepted, of the kind that its status tells.
+    ensures accepted { (asked : Asked) (kind : Kind) → IsCommand words.now (merge_of asked)
+        → result.status ≡ end_number kind → IsAccepted result.text.items kind }
+
+    // What `check` answers to the bytes of a source that tells them.
+    ensures told_check { (bytes : List ℕ) → AsksCheck (S.left source.old) words.now bytes
+        → result.status ≢ 4 → result.status ≢ 5 → result.status ≢ 6
+        → CheckAnswers bytes result.status result.text.items }
+    ensures checked { (bytes : List ℕ) → AsksCheck (S.left source.old) words.now bytes
+        → result.status ≢ 4 → result.status ≢ 5 → result.status ≢ 6 → (kind : Kind)
+        → ((result.status ≡ 0) × (result.text.items ≡ accepted_text kind))
+        ↔ IsAccepted bytes kind }
+    ensures checked_true { (bytes : List ℕ) → AsksCheck (S.left source.old) words.now bytes
+        → result.status ≡ 0 → (kind : Kind) × (result.text.items ≡ accepted_text kind)
+        × IsTrueReport bytes kind }
+    ensures refused_report { (bytes : List ℕ) → AsksCheck (S.left source.old) words.now bytes
+        → result.status ≢ 4 → result.status ≢ 5 → result.status ≢ 6
+        → (line : ℕ) (kind : RefusedKind) → IsFirstWrong bytes line kind
+        → (result.status ≡ 7) × (result.text.items ≡ wrong_line_text line kind) }
+    ensures refused_report_only { (bytes : List ℕ)
+        → AsksCheck (S.left source.old) words.now bytes → result.status ≡ 7
+        → (line : ℕ) × (kind : RefusedKind) × IsFirstWrong bytes line kind
+        × (result.text.items ≡ wrong_line_text line kind) }
 
     ensures read_fault { result.status ≡ 4
         → IsReading words.now × Rose (S.faults source.old) (S.faults source.new) }
@@ -160,11 +205,10 @@ pub fn run<S: Source, K: Sink>(
     ensures whole { result.status ≢ 5 → result.sent ≡ length result.text.items }
 
     // The source gave some bytes and has those left that it had after them, however the run ended.
-    // A problem text that is not too long is read to its end, and a run that asks no text reads
-    // nothing.
+    // A text that is not too long is read to its end, and a run that asks no text reads nothing.
     ensures source { (bytes : List ℕ) × Gave (S.left source.old) (S.left source.new)
         (S.room source.old) (S.room source.new) bytes }
-    ensures at_end { (command : Command) → IsCommand words.now command → ReadsProblem command
+    ensures at_end { (command : Command) → IsCommand words.now command → Reads command
         → ¬ (Exceeds (limit_of command) (S.room source.old - S.room source.new))
         → result.status ≢ 4 → result.status ≢ 6 → IsAtEnd (S.left source.new) }
     ensures unread { IsUnread words.now → source.new ≡ source.old }

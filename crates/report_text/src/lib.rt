@@ -7,5 +7,12 @@ pub mod answering;
 pub mod front;
 /// The log of a report, its proofs and its end.
 pub mod logging;
+mod parts;
 /// Why a line does not lead on.
 pub mod stop;
+mod writing;
+mod written;
+
+pub use parts::{accepted_has_parts, one_parts};
+pub use writing::{write_answer, write_report};
+pub use written::written_is_accepted;

@@ -85,6 +85,7 @@ fn shows(
 
 // Whether the log spent its conflicts.
 fn has_spent(
+    alloc: Global,
     known: &ClauseList,
     main: u64,
     kinds: &[StepKind],
@@ -96,7 +97,7 @@ fn has_spent(
     if (kinds.len() as u64) < conflicts {
         return Ok(false);
     }
-    Ok(are_last_new(known, main, kinds, conflicts as usize))
+    are_last_new(alloc, known, main, kinds, conflicts as usize)
 }
 
 impl Logging {
@@ -190,7 +191,13 @@ impl Logging {
         match self.kind {
             Kind::Merged => Ok(true),
             Kind::Inconsistent => Ok(true),
-            Kind::Spent => has_spent(&self.known, self.main, &self.kinds, self.conflicts),
+            Kind::Spent => has_spent(
+                *self.kinds.allocator(),
+                &self.known,
+                self.main,
+                &self.kinds,
+                self.conflicts,
+            ),
         }
     }
 

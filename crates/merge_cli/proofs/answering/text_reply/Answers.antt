@@ -1,5 +1,8 @@
-use Rattle.merge_cli.proofs.Replies.{answered_by_text}
+use Rattle.merge_cli.proofs.Replies.{answered_by_text, answered_by_check}
 use Rattle.merge_cli.proofs.answering.text_reply.Goals as goal
 
-pub returns : goal.returns
-returns c = answered_by_text c.args.command c.args.bytes.now c.problem_text_reply.result c.problem_text_reply.ensures
+pub returns-in-Merge : goal.returns-in-Merge
+returns-in-Merge c = answered_by_text c.args.command _ _ _ c.args.bytes.now c.problem_text_reply.result c.in-Merge.is c.problem_text_reply.ensures
+
+pub returns-in-Check : goal.returns-in-Check
+returns-in-Check c = answered_by_check c.args.command c.args.bytes.now c.check_reply.result c.in-Check.is c.check_reply.ensures

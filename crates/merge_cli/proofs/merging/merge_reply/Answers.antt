@@ -1,11 +1,13 @@
-use Rattle.std.proofs.Common.{arith, ap, ◌∙◌, ◌++◌, ℕ, List}
-use Rattle.merge_cli.specs.Merge.{answer_report}
+use Rattle.std.proofs.Common.{ap, ◌∙◌, ◌++◌, ℕ, List}
+use Rattle.report_lines.specs.Parts.{report_text}
+use Rattle.report_lines.specs.Reports.{asked_in, parts_in}
 use Rattle.merge_cli.proofs.Problems.{merge_answered}
 use Rattle.merge_cli.proofs.merging.merge_reply.Goals as goal
 
 pub returns : goal.returns
 returns c =
-    let report = answer_report c.args.distance c.args.aggregator c.args.problem.now c.in_ok-answer.answer in
-    merge_answered c.args.distance c.args.aggregator c.args.problem.now c.in_ok-answer.answer _ _ (omega (arith, c.if-len-gt-BUILT_LIMIT.false, c.len.ensures.number))
-    c.in_ok-answer.ensures.answer c.status_for-status.ensures
-    (c.in_ok-write_answer.ensures ∙ ap (λ (text : List ℕ). text ++ report) c.new-text.ensures.items)
+    let report = c.in_ok-report.report in
+    let whole = report_text (asked_in report) (parts_in report) in
+    let is = c.in_ok-report.ensures in
+    merge_answered _ _ _ c.args.problem report _ _ is.distance is.aggregator is.conflicts is.problem is.form is.borne_out is.truth c.status_for-status.ensures
+    (c.in_ok-write_report.ensures ∙ ap (λ (text : List ℕ). text ++ whole) c.new-text.ensures.items)

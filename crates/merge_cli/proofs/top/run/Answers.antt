@@ -1,6 +1,7 @@
-use Rattle.std.proofs.Common.{inl, inr}
+use Rattle.std.proofs.Common.{inl, inr, refl}
+use Rattle.merge_cli.proofs.Reported.{is_reported}
 use Rattle.merge_cli.proofs.Laws.{no_stop}
-use Rattle.merge_cli.proofs.Told.{refused_words_run, too_long_run, at_end_run, told_run, refused_run, refused_only_run, problem_run, lacking_run, not_merged_run, merged_run, inconsistent_run}
+use Rattle.merge_cli.proofs.Told.{refused_words_run, too_long_run, at_end_run, told_run, refused_run, refused_only_run, problem_run, lacking_run, not_merged_run, merged_run, inconsistent_run, gave_up_run, ample_run, reported_run, accepted_run, told_check_run, checked_run, checked_true_run, refused_report_run, refused_report_only_run}
 use Rattle.merge_cli.proofs.top.run.Goals as goal
 
 pub returns-in-Ok-send_all-clause-read_fault : goal.returns-in-Ok-send_all-clause-read_fault
@@ -43,6 +44,42 @@ returns-in-Ok-send_all-clause-merged g c = merged_run _ _ _ _ _ _ _ c.in-Ok.ensu
 
 pub returns-in-Ok-send_all-clause-inconsistent : goal.returns-in-Ok-send_all-clause-inconsistent
 returns-in-Ok-send_all-clause-inconsistent g c = inconsistent_run _ _ _ _ _ _ _ c.in-Ok.ensures.ok
+
+pub returns-in-Ok-send_all-clause-gave_up : goal.returns-in-Ok-send_all-clause-gave_up
+returns-in-Ok-send_all-clause-gave_up g c = gave_up_run _ _ _ _ _ _ _ c.in-Ok.ensures.ok
+
+pub returns-in-Ok-send_all-clause-never_gives_up : goal.returns-in-Ok-send_all-clause-never_gives_up
+returns-in-Ok-send_all-clause-never_gives_up g c = ample_run _ _ _ _ _ _ _ c.in-Ok.ensures.ok
+
+pub returns-in-Ok-send_all-clause-reported : goal.returns-in-Ok-send_all-clause-reported
+returns-in-Ok-send_all-clause-reported g c = λ asked of one four five six. reported_run _ _ _ _ _ _ _ c.in-Ok.ensures.ok asked of one
+
+pub returns-in-Ok-send_all-clause-accepted : goal.returns-in-Ok-send_all-clause-accepted
+returns-in-Ok-send_all-clause-accepted g c = accepted_run _ _ _ _ _ _ _ c.in-Ok.ensures.ok
+
+pub returns-in-Err-clause-accepted : goal.returns-in-Err-clause-accepted
+returns-in-Err-clause-accepted g c = λ asked k of is. absurd ((is_reported k _ is).not_written refl)
+
+pub returns-in-Err-Failed-clause-accepted : goal.returns-in-Err-Failed-clause-accepted
+returns-in-Err-Failed-clause-accepted g c = λ asked k of is. absurd ((is_reported k _ is).not_read refl)
+
+pub returns-in-Err-NoMemory-clause-accepted : goal.returns-in-Err-NoMemory-clause-accepted
+returns-in-Err-NoMemory-clause-accepted g c = λ asked k of is. absurd ((is_reported k _ is).not_memory refl)
+
+pub returns-in-Ok-send_all-clause-told_check : goal.returns-in-Ok-send_all-clause-told_check
+returns-in-Ok-send_all-clause-told_check g c = λ bytes asks four five six. told_check_run _ _ _ _ _ _ _ c.in-Ok.ensures.ok bytes asks
+
+pub returns-in-Ok-send_all-clause-checked : goal.returns-in-Ok-send_all-clause-checked
+returns-in-Ok-send_all-clause-checked g c = λ bytes asks four five six k. checked_run _ _ _ _ _ _ _ c.in-Ok.ensures.ok bytes asks k
+
+pub returns-in-Ok-send_all-clause-checked_true : goal.returns-in-Ok-send_all-clause-checked_true
+returns-in-Ok-send_all-clause-checked_true g c = checked_true_run _ _ _ _ _ _ _ c.in-Ok.ensures.ok
+
+pub returns-in-Ok-send_all-clause-refused_report : goal.returns-in-Ok-send_all-clause-refused_report
+returns-in-Ok-send_all-clause-refused_report g c = λ bytes asks four five six line k first. refused_report_run _ _ _ _ _ _ _ c.in-Ok.ensures.ok bytes asks line k first
+
+pub returns-in-Ok-send_all-clause-refused_report_only : goal.returns-in-Ok-send_all-clause-refused_report_only
+returns-in-Ok-send_all-clause-refused_report_only g c = refused_report_only_run _ _ _ _ _ _ _ c.in-Ok.ensures.ok
 
 pub returns-in-Ok-send_all-clause-at_end : goal.returns-in-Ok-send_all-clause-at_end
 returns-in-Ok-send_all-clause-at_end g c = λ command is reads few four six. at_end_run _ _ _ _ _ _ _ c.in-Ok.ensures.ok command is reads few

@@ -1,0 +1,46 @@
+-- What `check` answers to a text.
+use Rattle.std.specs.Prelude.{◌≡◌, ℕ, List, codes}
+use Rattle.report_lines.specs.declared.kinds.Kind.{Kind}
+use Rattle.report_lines.specs.declared.kinds.Kind.TheVariants as kind
+use Rattle.report_lines.specs.declared.kinds.RefusedKind.{RefusedKind}
+use Rattle.report_lines.specs.declared.kinds.RefusedKind.TheVariants as refused
+use Rattle.report_lines.specs.Accepted.{Parts}
+use Rattle.report_lines.specs.Judged.{IsAccepted, IsFirstWrong}
+use Rattle.report_lines.specs.Parts.{Asked, HasParts, kind_of_answer}
+use Rattle.report_text.specs.PartsLaws.{IsBorneOut}
+use Rattle.merge_cli.specs.declared.standin.Refused.{Refused}
+use Rattle.merge_cli.specs.Refusals.{line_refusal_text}
+
+abbrev pub accepted_text : Kind → List ℕ
+accepted_text kind.Merged = codes "accepted merged\n"
+accepted_text kind.Inconsistent = codes "accepted inconsistent\n"
+accepted_text kind.Spent = codes "accepted spent\n"
+
+abbrev pub wrong_word : RefusedKind → List ℕ
+wrong_word refused.Form = codes "form"
+wrong_word refused.Problem = codes "problem"
+wrong_word refused.Step = codes "step"
+wrong_word refused.Witness = codes "witness"
+wrong_word refused.Claim = codes "claim"
+wrong_word refused.Ended = codes "ended"
+
+-- the first wrong line of a report, and what is wrong with it
+abbrev pub wrong_line_text : ℕ → RefusedKind → List ℕ
+wrong_line_text line k = line_refusal_text line (wrong_word k)
+
+-- the answer names this line
+abbrev pub SaysWrong : Refused → ℕ → List ℕ → Type 0
+SaysWrong refused status text = (status ≡ 7) × (text ≡ wrong_line_text refused.line refused.kind)
+
+-- the text is the report of parts that bear its answer out, and the answer is of this kind
+pub record IsTrueReport (text : List ℕ) (k : Kind) : Type 0 where
+  pub asked : Asked
+  pub parts : Parts
+  pub report : HasParts text asked parts
+  pub answer : kind_of_answer parts.answer ≡ k
+  pub borne_out : IsBorneOut asked parts
+
+-- the answers to a text
+pub data CheckAnswers (read : List ℕ) (status : ℕ) (text : List ℕ) : Type 0 where
+  accepted : (k : Kind) → IsAccepted read k → IsTrueReport read k → status ≡ 0 → text ≡ accepted_text k → CheckAnswers read status text
+  wrong : (line : ℕ) (k : RefusedKind) → IsFirstWrong read line k → status ≡ 7 → text ≡ wrong_line_text line k → CheckAnswers read status text

@@ -1,0 +1,8 @@
+pub mod Shown
+pub mod Verdicts
+pub mod Named
+pub mod Accepting
+pub mod Shapes
+pub mod Spent
+pub mod Ends
+pub mod Whole

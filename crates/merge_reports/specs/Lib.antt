@@ -1,0 +1,4 @@
+pub mod Proofs
+pub mod Found
+pub mod Outcomes
+pub mod BorneOut

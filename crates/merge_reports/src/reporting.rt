@@ -1,0 +1,50 @@
+// Reports.
+ghost use Rattle.std.specs.Prelude.{◌≡◌, ◌≤◌, IfOk};
+ghost use Rattle.report_lines.specs.Places.{conflict_limit};
+ghost use Rattle.report_lines.specs.Parts.{HasForm};
+ghost use Rattle.report_lines.specs.Reports.{IsReport, asked_in, parts_in};
+ghost use Rattle.merge_reports.specs.BorneOut.{IsBorneOut, IsTruthful};
+
+use crate::outcome::{Found, Outcome, search_named};
+use edge::NoMemory;
+use merge_model::{AggregatorName, DistanceName, Problem, Sequence};
+use report_lines::Report;
+use std::alloc::Global;
+
+/// Merges a problem by search under the named distance and aggregator: the report, with the log that
+/// shows it. Each question may learn `conflicts` steps; where one learns them all, the report says that
+/// the search gave up. `NoMemory` for want of memory.
+pub fn report_on(
+    alloc: Global,
+    distance: DistanceName,
+    aggregator: AggregatorName,
+    conflicts: u64,
+    problem: Problem,
+) -> Result<Report, NoMemory>
+    requires some { 1 ≤ conflicts }
+    requires few { conflicts ≤ conflict_limit }
+    ensures distance { IfOk result (λ report. report.distance ≡ distance) }
+    ensures aggregator { IfOk result (λ report. report.aggregator ≡ aggregator) }
+    ensures conflicts { IfOk result (λ report. report.conflicts ≡ conflicts) }
+    ensures problem { IfOk result (λ report. report.problem ≡ problem) }
+    ensures whole { IfOk result IsReport }
+    ensures form { IfOk result (λ report. HasForm (asked_in report) (parts_in report)) }
+    ensures answer { IfOk result IsBorneOut }
+    ensures truth { IfOk result IsTruthful }
+{
+    let outcome = search_named(alloc, distance, aggregator, conflicts, problem)?;
+    let Outcome {
+        problem,
+        found: Found { answer, proofs },
+        derivations,
+    } = outcome;
+    Ok(Report {
+        distance,
+        aggregator,
+        conflicts,
+        problem,
+        answer,
+        derivations,
+        proofs: Sequence::from_vec(proofs),
+    })
+}
