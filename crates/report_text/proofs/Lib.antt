@@ -31,3 +31,8 @@ pub mod Ranking
 pub mod Rows
 pub mod Unions
 pub mod LoggingFacts
+pub mod CheckerPlaces
+pub mod CheckerFacts
+pub mod OpenFeeds
+pub mod OpenLaws
+pub mod AcceptingFacts

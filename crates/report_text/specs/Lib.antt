@@ -6,3 +6,6 @@ pub mod PartsLaws
 pub mod Answering
 pub mod Taking
 pub mod Logging
+pub mod Open
+pub mod Checker
+pub mod Accepting

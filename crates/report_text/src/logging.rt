@@ -175,7 +175,14 @@ impl Logging {
         let Some(number) = shown_line(line, claim.model, &claim.says) else {
             return Err(LineStop::Wrong(RefusedKind::Form));
         };
-        if !shows(alloc, &self.known, self.main, &self.frame, &claim.says, number)? {
+        if !shows(
+            alloc,
+            &self.known,
+            self.main,
+            &self.frame,
+            &claim.says,
+            number,
+        )? {
             return Err(LineStop::Wrong(RefusedKind::Claim));
         }
         self.next += 1;

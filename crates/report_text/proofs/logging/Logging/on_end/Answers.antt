@@ -15,8 +15,7 @@ returns-then-not-branch c = λ p h.
 pub returns : goal.returns
 returns c = λ p h.
     let s = c.args.self.now in
-    let none = none_left s.claims.items s.next c.requires.none in
-    (
+    let none = none_left s.claims.items s.next c.requires.none in (
       after p (EndLine (end_number s.kind)),
       record {
         item = EndLine (end_number s.kind);

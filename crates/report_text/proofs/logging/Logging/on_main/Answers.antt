@@ -13,8 +13,7 @@ returns-then-not-is_main c = λ p h.
 
 pub returns : goal.returns
 returns c = λ p h.
-    let some = c.in-Some.ensures.some in
-    (
+    let some = c.in-Some.ensures.some in (
       after p (MainLine c.in-Some.vars c.in-Some.clauses),
       record {
         item = MainLine c.in-Some.vars c.in-Some.clauses;

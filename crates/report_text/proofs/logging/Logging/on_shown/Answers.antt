@@ -20,8 +20,7 @@ returns c = λ p h.
     let s = c.args.self.now in
     let claim = c.index-claim.result.now in
     let cut = next_claim s.claims.items s.next claim (search rules) (search rules) in
-    let some = c.in-Some.ensures.some in
-    (
+    let some = c.in-Some.ensures.some in (
       after p (ShownLine (due_claim claim) c.in-Some.number),
       record {
         item = ShownLine (due_claim claim) c.in-Some.number;
