@@ -30,3 +30,9 @@ pub mod Properness
 pub mod Ranking
 pub mod Rows
 pub mod Unions
+pub mod LoggingFacts
+pub mod CheckerPlaces
+pub mod CheckerFacts
+pub mod OpenFeeds
+pub mod OpenLaws
+pub mod AcceptingFacts

@@ -5,3 +5,7 @@ pub mod WritingItems
 pub mod PartsLaws
 pub mod Answering
 pub mod Taking
+pub mod Logging
+pub mod Open
+pub mod Checker
+pub mod Accepting

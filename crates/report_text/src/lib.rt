@@ -1,10 +1,16 @@
 //! Reports as texts: written from what a search found, and checked line by line by whoever reads them.
 #![tactic(auto)]
 
+/// Whole reports, judged.
+pub mod accepting;
 /// What the answer of a report says.
 pub mod answering;
+/// A checker of reports, line by line.
+pub mod checker;
 /// The lines before the answer.
 pub mod front;
+/// The log of a report, its proofs and its end.
+pub mod logging;
 mod parts;
 /// Why a line does not lead on.
 pub mod stop;

@@ -1,0 +1,37 @@
+-- What the judgement of a whole report says.
+use Rattle.std.specs.Prelude.{◌≡◌, ℕ, ◌+◌, false, List, ◌++◌, All, eqb, Result, Ok, Err}
+use Rattle.report_lines.specs.Places.{Position}
+use Rattle.report_lines.specs.Judged.{IsFirstWrong, IsAccepted}
+use Rattle.report_lines.specs.declared.kinds.Kind.{Kind}
+use Rattle.report_text.specs.declared.checker.Checker.{Checker}
+use Rattle.report_text.specs.Checker.{Stands}
+use Rattle.report_text.specs.Open.{Open}
+use Rattle.report_text.specs.declared.accepting.AcceptStop.{AcceptStop}
+use Rattle.report_text.specs.declared.accepting.AcceptStop.TheVariants as stops
+use Rattle.report_text.specs.declared.stop.LineStop.{LineStop}
+use Rattle.report_text.specs.declared.stop.LineStop.TheVariants as lines
+
+-- the first wrong line of the text, unless memory was refused
+abbrev pub IsStop : List ℕ → AcceptStop → Type 0
+IsStop text (stops.Refused refusal) = IsFirstWrong text refusal.line refusal.kind
+IsStop text stops.NoMemory = Unit {0}
+
+-- no line feed
+abbrev pub HasNoFeed : List ℕ → Type 0
+HasNoFeed bytes = All (λ b. eqb b 10 ≡ false) bytes
+
+-- why a line does not lead on, with its number
+abbrev pub stop_at : ℕ → LineStop → AcceptStop
+stop_at line (lines.Wrong k) = stops.Refused (record { line = line; kind = k })
+stop_at line lines.NoMemory = stops.NoMemory
+
+-- what a whole text comes to
+abbrev pub IsEnd : List ℕ → Result Kind AcceptStop → Type 0
+IsEnd text (Ok kind) = IsAccepted text kind
+IsEnd text (Err stop) = IsStop text stop
+
+-- what the next line comes to: the next checker stands where the text is open after it; or the text is refused, whatever
+-- follows
+abbrev pub IsTaken : List ℕ → List ℕ → ℕ → Result Checker AcceptStop → Type 0
+IsTaken text next number (Ok checker) = (q : Position) × Stands checker q × Open text next q (number + 1)
+IsTaken text next number (Err stop) = (more : List ℕ) → IsStop (text ++ more) stop
