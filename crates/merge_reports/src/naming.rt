@@ -1,6 +1,6 @@
 // The answer where some formula has no model.
-ghost use Rattle.std.specs.Prelude.{◌≡◌, ◌++◌, [], map, IfOk, OnOk};
-ghost use Rattle.merge_reports.specs.Proofs.{lack_proof, entry_of, entry_proofs, agent_proofs, naming_answer, naming_proofs};
+ghost use Rattle.std.specs.Prelude.{◌≡◌, ◌++◌, IfOk, OnOk};
+ghost use Rattle.merge_reports.specs.Proofs.{lack_proof, entry_of, entry_proofs, naming_answer, naming_proofs};
 
 use crate::outcome::Found;
 use distance_search::{Consistency, Named};

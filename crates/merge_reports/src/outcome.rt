@@ -1,5 +1,5 @@
 // What a search comes to.
-ghost use Rattle.std.specs.Prelude.{◌≡◌, ◌<◌, ◌≤◌, length, IfOk, MatchResult};
+ghost use Rattle.std.specs.Prelude.{◌≡◌, ◌≤◌, IfOk, MatchResult};
 ghost use Rattle.report_lines.specs.Accepted.{operator};
 ghost use Rattle.report_lines.specs.Operators.{operator_named};
 ghost use Rattle.merge_reports.specs.Found.{IsFound, IsEnded, IsSmall};

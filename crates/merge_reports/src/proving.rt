@@ -1,6 +1,5 @@
 // The steps of an answer, as proofs of its claims.
-ghost use Rattle.std.specs.Prelude.{◌≡◌, ◌++◌, ℕ, OnOk};
-ghost use Rattle.report_lines.specs.declared.report.Proof.TheVariants as proof;
+ghost use Rattle.std.specs.Prelude.{◌≡◌, ◌++◌, OnOk};
 ghost use Rattle.merge_reports.specs.Proofs.{far_proofs, least_proofs};
 
 use edge::NoMemory;
