@@ -1,6 +1,9 @@
 -- What the judgement of a whole report says.
 use Rattle.std.specs.Prelude.{◌≡◌, ℕ, ◌+◌, false, List, ◌++◌, All, eqb, Result, Ok, Err}
+use Rattle.report_lines.specs.Accepted.{Parts}
+use Rattle.report_lines.specs.Parts.{Asked, HasParts, kind_of_answer}
 use Rattle.report_lines.specs.Places.{Position}
+use Rattle.report_text.specs.PartsLaws.{IsBorneOut}
 use Rattle.report_lines.specs.Judged.{IsFirstWrong, IsAccepted}
 use Rattle.report_lines.specs.declared.kinds.Kind.{Kind}
 use Rattle.report_text.specs.declared.checker.Checker.{Checker}
@@ -24,6 +27,10 @@ HasNoFeed bytes = All (λ b. eqb b 10 ≡ false) bytes
 abbrev pub stop_at : ℕ → LineStop → AcceptStop
 stop_at line (lines.Wrong k) = stops.Refused (record { line = line; kind = k })
 stop_at line lines.NoMemory = stops.NoMemory
+
+-- the text has the parts of a report, which bear its answer out
+abbrev pub IsBorneOutText : List ℕ → Kind → Type 0
+IsBorneOutText text k = (asked : Asked) × (r : Parts) × HasParts text asked r × (kind_of_answer r.answer ≡ k) × IsBorneOut asked r
 
 -- what a whole text comes to
 abbrev pub IsEnd : List ℕ → Result Kind AcceptStop → Type 0

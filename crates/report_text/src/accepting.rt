@@ -4,9 +4,10 @@ ghost use Rattle.report_lines.specs.Places.{Position};
 ghost use Rattle.report_text.specs.Checker.{Stands, IsFit, IsOutcome};
 ghost use Rattle.report_text.specs.Open.{Open};
 ghost use Rattle.report_lines.specs.Judged.{IsAccepted};
-ghost use Rattle.report_text.specs.Accepting.{IsStop, IsTaken, IsEnd, HasNoFeed, stop_at};
+ghost use Rattle.report_text.specs.Accepting.{IsStop, IsTaken, IsEnd, IsBorneOutText, HasNoFeed, stop_at};
 
 use crate::checker::Checker;
+use crate::parts::accepted_has_parts;
 use crate::stop::LineStop;
 use report_lines::{Kind, RefusedKind};
 use std::alloc::Global;
@@ -85,10 +86,9 @@ fn take_end(outcome: Option<Kind>, rest: &[u8], number: u64) -> Result<Kind, Acc
     Ok(kind)
 }
 
-/// Judges a whole report: what it is accepted as, or its first wrong line.
-pub fn accept(alloc: Global, bytes: &[u8]) -> Result<Kind, AcceptStop>
-    ensures ok { IfOk result (λ kind. IsAccepted bytes.now kind) }
-    ensures refused { IfErr result (λ stop. IsStop bytes.now stop) }
+// Goes over the lines of a text.
+fn judge(alloc: Global, bytes: &[u8]) -> Result<Kind, AcceptStop>
+    ensures { IsEnd bytes.now result }
 {
     let mut checker = Checker::new(alloc);
     let mut rest = bytes;
@@ -102,4 +102,15 @@ pub fn accept(alloc: Global, bytes: &[u8]) -> Result<Kind, AcceptStop>
         number += 1;
     }
     take_end(checker.outcome(), rest, number)
+}
+
+/// Judges a whole report: what it is accepted as, or its first wrong line. What is accepted has the parts of a report,
+/// which bear its answer out.
+pub fn accept(alloc: Global, bytes: &[u8]) -> Result<Kind, AcceptStop>
+    ensures ok { IfOk result (λ kind. IsAccepted bytes.now kind) }
+    ensures borne_out { IfOk result (λ kind. IsBorneOutText bytes.now kind) }
+    ensures refused { IfErr result (λ stop. IsStop bytes.now stop) }
+{
+    accepted_has_parts();
+    judge(alloc, bytes)
 }

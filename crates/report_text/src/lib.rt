@@ -1,8 +1,7 @@
 //! Reports as texts: written from what a search found, and checked line by line by whoever reads them.
 #![tactic(auto)]
 
-/// Whole reports, judged.
-pub mod accepting;
+mod accepting;
 /// What the answer of a report says.
 pub mod answering;
 /// A checker of reports, line by line.
@@ -17,6 +16,7 @@ pub mod stop;
 mod writing;
 mod written;
 
+pub use accepting::{AcceptStop, Refused, accept};
 pub use parts::{accepted_has_parts, one_parts};
 pub use writing::{write_answer, write_report};
 pub use written::written_is_accepted;

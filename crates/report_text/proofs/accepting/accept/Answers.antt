@@ -1,42 +1,15 @@
-use Rattle.std.proofs.Common.{rules, ◌≡◌, ◌∷◌, ◌++◌}
-use Rattle.report_text.specs.Accepting.{HasNoFeed}
-use Rattle.report_text.proofs.AcceptingFacts.{reads_start, reads_fit, reads_more, shorter, whole_stop, end_ok, end_refused}
+use Rattle.std.proofs.lemmas.Result.{IfOk-weaker}
+use Rattle.report_lines.specs.Judged.{IsAccepted}
+use Rattle.report_text.specs.Accepting.{IsBorneOutText}
+use Rattle.report_text.proofs.AcceptingFacts.{end_ok, end_refused}
 use Rattle.report_text.proofs.accepting.accept.Goals as goal
 
-pub loop-line-init : goal.loop-line-init
-loop-line-init c = reads_start c.args.bytes.now c.new-checker.result c.new-checker.ensures
-
-pub take_line-requires : goal.take_line-requires
-take_line-requires c = reads_fit c.args.bytes.now c.loop-line.rest.now c.loop-line.checker c.loop-line.number c.loop-line.invariant
-
-pub returns-in-Err-clause-refused : goal.returns-in-Err-clause-refused
-returns-in-Err-clause-refused c =
-    let r = c.loop-line.invariant in
-    let e : c.loop-line.rest.now ≡ c.in-Some.line.now ++ 10 ∷ c.in-Some.after.now = search rules in
-    let none : HasNoFeed c.in-Some.line.now = search rules in
-    whole_stop c.args.bytes.now c.in-Err.stop (c.in-Err.ensures c.args.bytes.now c.loop-line.rest.now c.in-Some.after.now r.place r.stands r.reads e none)
-
-pub loop-line-smaller : goal.loop-line-smaller
-loop-line-smaller c =
-    let e : c.loop-line.rest.now ≡ c.in-Some.line.now ++ 10 ∷ c.in-Some.after.now = search rules in
-    shorter c.loop-line.rest.now c.in-Some.line.now c.in-Some.after.now e
-
-pub loop-line-preserved : goal.loop-line-preserved
-loop-line-preserved c =
-    let r = c.loop-line.invariant in
-    let e : c.loop-line.rest.now ≡ c.in-Some.line.now ++ 10 ∷ c.in-Some.after.now = search rules in
-    let none : HasNoFeed c.in-Some.line.now = search rules in
-    reads_more c.args.bytes.now c.loop-line.rest.now c.in-Some.line.now c.in-Some.after.now c.loop-line.checker c.in-Ok.next c.loop-line.number r e
-    (c.in-Ok.ensures c.args.bytes.now c.loop-line.rest.now c.in-Some.after.now r.place r.stands r.reads e none)
-
 pub returns-clause-ok : goal.returns-clause-ok
-returns-clause-ok c =
-    let r = c.loop-line.invariant in
-    let none : HasNoFeed c.loop-line.rest.now = search rules in
-    end_ok c.args.bytes.now c.take_end.result (c.take_end.ensures c.args.bytes.now r.place (c.outcome.ensures r.place r.stands) r.reads none)
+returns-clause-ok c = end_ok c.args.bytes.now c.judge.result c.judge.ensures
+
+pub returns-clause-borne_out : goal.returns-clause-borne_out
+returns-clause-borne_out c =
+    IfOk-weaker c.judge.result (IsAccepted c.args.bytes.now) (IsBorneOutText c.args.bytes.now) (c.accepted_has_parts.ensures c.args.bytes.now) (end_ok c.args.bytes.now c.judge.result c.judge.ensures)
 
 pub returns-clause-refused : goal.returns-clause-refused
-returns-clause-refused c =
-    let r = c.loop-line.invariant in
-    let none : HasNoFeed c.loop-line.rest.now = search rules in
-    end_refused c.args.bytes.now c.take_end.result (c.take_end.ensures c.args.bytes.now r.place (c.outcome.ensures r.place r.stands) r.reads none)
+returns-clause-refused c = end_refused c.args.bytes.now c.judge.result c.judge.ensures

@@ -1,6 +1,6 @@
 use Rattle.std.proofs.Common.{length}
 use Rattle.report_text.proofs.AcceptingFacts.{Reads}
-use Rattle.report_text.proofs.accepting.accept.Given as goal
+use Rattle.report_text.proofs.accepting.judge.Given as goal
 
 abbrev pub invariant-loop-line : goal.invariant-loop-line
 invariant-loop-line l = Reads l.bytes l.rest l.checker l.number
