@@ -1,20 +1,20 @@
 -- Lemmas on marks and the clause that they hold.
-use Rattle.std.proofs.Common.{◌≡◌, ◌≢◌, ℕ, ◌+◌, ◌-◌, ◌<◌, ◌≤◌, Bool, true, false, not, ◌||◌, List, [], ◌∷◌, ◌++◌, length, refl, ap, sym, ◌∙◌, arith, cond, eqb, inl, inr, subst, zero, suc, Some, None, Option, get_or, set, take, drop, ◌⊎◌}
+use Rattle.std.proofs.Common.{◌≡◌, ◌≢◌, ℕ, ◌+◌, ◌<◌, ◌≤◌, Bool, true, false, not, ◌||◌, List, [], ◌∷◌, ◌++◌, length, refl, ap, sym, ◌∙◌, arith, cond, eqb, inl, inr, subst, zero, suc, Some, None, Option, get_or, set, take, ◌⊎◌}
 use Rattle.std.specs.Prelude.{nat_lt, unwrap_or}
 use Rattle.std.specs.List.{AllByRecursion}
 use Rattle.std.proofs.Math.Bool.{beq}
-use Rattle.std.proofs.lemmas.Bool.{cases_lt, cases_eq, cases_Bool, false≢true}
-use Rattle.std.proofs.lemmas.List.{get_or-set_same, get_or-set_other, set-get_or, take_more}
+use Rattle.std.proofs.lemmas.Bool.{cases_eq, cases_Bool, false≢true}
+use Rattle.std.proofs.lemmas.List.{get_or-set_same, get_or-set_other, take_more}
 use Rattle.clause_store.specs.declared.lit.Lit.{Lit}
 use Rattle.clause_store.specs.Lits.{rank_of, negated, same_lit, with_lit, without, joined, resolvent, sorted_onto, sorted_clause, Ascends, has}
-use Rattle.clause_store.proofs.Lits.{rank_lit, negated-twice, Ascends-with_lit, Ascends-without, Ascends-joined, Ascends-resolvent, Ascends-sorted_clause}
+use Rattle.clause_store.proofs.Lits.{Ascends-with_lit, Ascends-without, Ascends-resolvent, Ascends-sorted_clause}
 use Rattle.clause_store.proofs.Sorts.{same_members}
 use Rattle.clause_store.proofs.Truths.{or_cases, or_left, or_right, or_none, or_swap, or_assoc}
 use Rattle.watch_lists.specs.declared.entry.Entry.{Entry}
-use Rattle.watch_lists.specs.Trace.{value_of, entry_of, under, room_in, room_of, upto, AreApart}
+use Rattle.watch_lists.specs.Trace.{value_of, entry_of, under, room_in, room_of, upto}
 use Rattle.watch_lists.proofs.Parts.{room_cons}
 use Rattle.solver_laws.specs.Ready.{IsFalseIn}
-use Rattle.solver_laws.proofs.Rooms.{same_lit-is, same_lit-refl, each_without, false_before, room_once, room_without}
+use Rattle.solver_laws.proofs.Rooms.{same_lit-is, false_before, room_without}
 use Rattle.cdcl_core.specs.Marked.{mark_of, AreClear, lower, is_but, others, IsHeld, IsAdded}
 
 -- members of clauses
@@ -365,9 +365,6 @@ pub keep_true : (all low : List Entry) (m : List Bool) (k : List Lit) (l : Lit) 
 keep_true all low m k l n f rest c a g h = (held_true all low rest m k c l h f, λ z. absurd (f z.0))
 
 -- adding literals, one after another
-pub added_none : (all low : List Entry) (m : List Bool) (k : List Lit) → IsAdded all low m k m k [] 0
-added_none all low m k rest c a g h = (h, λ z. omega arith)
-
 onto_more : (c xs ys : List Lit) → sorted_onto c (xs ++ ys) ≡ sorted_onto (sorted_onto c xs) ys
 onto_more c [] ys = refl
 onto_more c (x ∷ xs) ys = onto_more (with_lit x c) xs ys
@@ -411,44 +408,7 @@ pub others_some : (p : Lit) (ls : List Lit) → others (Some p) ls ≡ without p
 others_some p [] = refl
 others_some p (l ∷ ls) = elim (cases_Bool (same_lit l p)) [ inl t ↦ rw t (others_some p ls) | inr t ↦ rw t (ap (λ (zs : List Lit). l ∷ zs) (others_some p ls)) ]
 
--- taking marks off
-
-pub marked_within : (m : List Bool) (v : ℕ) → mark_of m v ≡ true → v < length m
-marked_within [] v h = absurd (cc)
-marked_within (b ∷ bs) zero h = omega arith
-marked_within (b ∷ bs) (suc v) h = omega (arith, marked_within bs v h)
-
-pub has_on : (x d : Lit) (i : ℕ) (k : List Lit) → i < length k → has x (drop i k) ≡ true → (same_lit x (get_or k i d) ≡ true) ⊎ (has x (drop (suc i) k) ≡ true)
-has_on x d i [] lt h = absurd (omega arith)
-has_on x d zero (l ∷ ls) lt h = or_cases (same_lit x l) (has x ls) h
-has_on x d (suc i) (l ∷ ls) lt h = has_on x d i ls (omega arith) h
-
-drop_next : (i : ℕ) (k : List Lit) → drop (i + 1) k ≡ drop (suc i) k
-drop_next i k = let e : i + 1 ≡ suc i = omega arith in ap (λ (n : ℕ). drop n k) e
-
-pub has_end : (x : Lit) (i : ℕ) (k : List Lit) → length k ≤ i → has x (drop i k) ≡ true → ⊥
-has_end x i [] le h = none i h
-  where
-    none : (i : ℕ) → has x (drop i []) ≡ true → ⊥
-    none zero h = cc
-    none (suc i) h = cc
-has_end x zero (l ∷ ls) le h = omega arith
-has_end x (suc i) (l ∷ ls) le h = has_end x i ls (omega arith) h
-
--- what was marked is a later literal's variable still
-pub unmarked : (m : List Bool) (k : List Lit) (i : ℕ) (d : Lit) → i < length k → ((v : ℕ) → mark_of m v ≡ true → (x : Lit) × (x.var ≡ v) × (has x (drop i k) ≡ true)) → (get_or k i d).var < length m →
-    (v : ℕ) → mark_of (set m (get_or k i d).var false) v ≡ true → (x : Lit) × (x.var ≡ v) × (has x (drop (i + 1) k) ≡ true)
-unmarked m k i d lt h n v t =
-    elim (cases_eq (get_or k i d).var v) [
-      | inl q ↦ absurd (false≢true (sym (mark_same m (get_or k i d).var v false q n) ∙ t))
-      | inr q ↦ (let y = h v (sym (mark_other m (get_or k i d).var v false q) ∙ t) in (y.0, y.1, elim (has_on y.0 d i k lt y.2) [ inl s ↦ absurd (q (sym (same_var y.0 (get_or k i d) s) ∙ y.1)) | inr r ↦ ap (has y.0) (drop_next i k) ∙ r ]))
-    ]
-
-pub unmarked_out : (m : List Bool) (k : List Lit) (i : ℕ) (d : Lit) → i < length k → ((v : ℕ) → mark_of m v ≡ true → (x : Lit) × (x.var ≡ v) × (has x (drop i k) ≡ true)) → ((get_or k i d).var < length m → ⊥) →
-    (v : ℕ) → mark_of m v ≡ true → (x : Lit) × (x.var ≡ v) × (has x (drop (i + 1) k) ≡ true)
-unmarked_out m k i d lt h n v t =
-    let y = h v t in
-    (y.0, y.1, elim (has_on y.0 d i k lt y.2) [ inl s ↦ absurd (n (subst (λ w. w < length m) (sym y.1 ∙ same_var y.0 (get_or k i d) s) (marked_within m v t))) | inr r ↦ ap (has y.0) (drop_next i k) ∙ r ])
+-- values
 
 pub not_open : (o : Option Bool) → unwrap_or o true ≡ true → o ≡ Some false → ⊥
 not_open o h q = absurd (let z = ap (λ (x : Option Bool). unwrap_or x true) (sym q) ∙ h in cc)

@@ -1,23 +1,19 @@
-use Rattle.std.proofs.Common.{rules, arith, ◌≡◌, ◌≤◌, ◌<◌, ◌-◌, ◌+◌, ℕ, List, Bool, sym, ◌∙◌, subst, Some, None, true, false, ap, [], ◌∷◌, ◌++◌, set, length}
-use Rattle.std.specs.Prelude.{slice_get}
+use Rattle.std.proofs.Common.{arith, ◌≡◌, ◌<◌, ◌-◌, ℕ, List, Bool, sym, ◌∙◌, subst, Some, true, ap, [], ◌∷◌, ◌++◌, length, refl, Option}
+use Rattle.std.specs.Prelude.{slice_get, unwrap_or}
 use Rattle.std.specs.List.{AllByRecursion}
 use Rattle.clause_store.specs.declared.lit.Lit.{Lit}
-use Rattle.clause_store.specs.Lits.{InRange, Ascends, sorted_clause, negated}
+use Rattle.clause_store.specs.Lits.{InRange, negated}
 use Rattle.clause_store.specs.Clauses.{clause_at}
+use Rattle.clause_store.specs.Refutes.{Refutes}
 use Rattle.clause_store.proofs.Numbered.{clause_at-within}
 use Rattle.derivation_log.specs.declared.step.Link.{Link}
 use Rattle.watch_lists.specs.declared.entry.Entry.{Entry}
-use Rattle.watch_lists.specs.Trace.{Attached, room_of, upto, oldest}
-use Rattle.solver_laws.specs.Ready.{IsLesson}
-use Rattle.solver_laws.proofs.Steps.{walk_start, walk_reason, tops_pos}
-use Rattle.cdcl_core.specs.Marked.{mark_of, lower, others, IsAdded}
+use Rattle.watch_lists.specs.Trace.{Attached, oldest}
+use Rattle.solver_laws.specs.Ready.{IsLesson, IsBarred}
+use Rattle.cdcl_core.specs.Marked.{mark_of}
 use Rattle.cdcl_core.proofs.Walks.{at_entry, reason_within}
-use Rattle.std.proofs.Common.{refl, Option}
-use Rattle.std.specs.Prelude.{unwrap_or}
-use Rattle.clause_store.specs.Refutes.{Refutes}
-use Rattle.solver_laws.specs.Ready.{IsBarred}
 use Rattle.cdcl_core.proofs.Claims.{IsClaiming, claim_end, decides_all, oldest_all, oldest_none}
-use Rattle.cdcl_core.proofs.Learning.{There, Ended, added_first, there_skip, there_stays, there_step, there_end}
+use Rattle.cdcl_core.proofs.Learning.{There, added_first, there_skip, there_stays, there_step, there_end}
 use Rattle.cdcl_core.proofs.analysis.claim.Goals as goal
 
 pub back-init : goal.back-init

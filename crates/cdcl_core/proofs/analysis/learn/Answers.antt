@@ -1,4 +1,4 @@
-use Rattle.std.proofs.Common.{rules, arith, ◌≡◌, ◌≤◌, ◌<◌, ◌-◌, ◌+◌, ℕ, List, Bool, sym, ◌∙◌, subst, Some, None, true, false, ap, [], ◌∷◌, ◌++◌, set, length}
+use Rattle.std.proofs.Common.{arith, ◌≡◌, ◌≤◌, ◌<◌, ◌-◌, ◌+◌, ℕ, List, Bool, sym, ◌∙◌, subst, Some, None, true, false, ap, [], ◌∷◌, ◌++◌, set, length}
 use Rattle.std.specs.Prelude.{slice_get}
 use Rattle.std.specs.List.{AllByRecursion}
 use Rattle.clause_store.specs.declared.lit.Lit.{Lit}
@@ -13,7 +13,7 @@ use Rattle.solver_laws.proofs.Steps.{walk_start, walk_reason, tops_pos}
 use Rattle.cdcl_core.specs.Marked.{mark_of, lower, others, IsAdded}
 use Rattle.cdcl_core.proofs.Walks.{at_entry, reason_within}
 use Rattle.cdcl_core.proofs.Claims.{oldest_all}
-use Rattle.cdcl_core.proofs.Learning.{Here, Ended, lower_is, added_first, here_skip, here_step, here_end, rooms_few, room_low}
+use Rattle.cdcl_core.proofs.Learning.{Here, lower_is, added_first, here_skip, here_step, here_end, rooms_few, room_low}
 use Rattle.cdcl_core.proofs.analysis.learn.Goals as goal
 
 pub back-init : goal.back-init

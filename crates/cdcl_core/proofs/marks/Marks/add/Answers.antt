@@ -1,8 +1,7 @@
-use Rattle.std.proofs.Common.{rules, arith, ◌≡◌, ◌+◌, ℕ, List, Bool, true, false, sym, ◌∙◌, length, ◌<◌, [], ◌∷◌, ◌++◌, subst, ap, take, get_or}
-use Rattle.std.proofs.lemmas.List.{take_all}
+use Rattle.std.proofs.Common.{arith, ◌≡◌, ◌+◌, ℕ, List, sym, ◌∙◌, [], ◌∷◌, subst, take, get_or}
 use Rattle.clause_store.specs.declared.lit.Lit.{Lit}
 use Rattle.watch_lists.specs.declared.entry.Entry.{Entry}
-use Rattle.cdcl_core.specs.Marked.{is_but, lower, others, IsAdded}
+use Rattle.cdcl_core.specs.Marked.{lower, others, IsAdded}
 use Rattle.cdcl_core.proofs.Levels.{no_lit}
 use Rattle.cdcl_core.proofs.Holding.{added_then, others_more, others_same}
 use Rattle.cdcl_core.proofs.marks.Marks.add.Goals as goal

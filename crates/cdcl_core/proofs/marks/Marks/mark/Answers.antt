@@ -1,10 +1,9 @@
-use Rattle.std.proofs.Common.{rules, arith, ◌≡◌, ℕ, List, Bool, true, false, sym, ◌∙◌, length, ◌<◌, [], ◌∷◌, ◌++◌, set, subst}
+use Rattle.std.proofs.Common.{arith, ◌≡◌, List, Bool, true, sym, ◌∙◌, [], ◌∷◌, set, subst, ap, Option}
+use Rattle.std.specs.Prelude.{unwrap_or}
 use Rattle.clause_store.specs.declared.lit.Lit.{Lit}
 use Rattle.watch_lists.specs.declared.entry.Entry.{Entry}
-use Rattle.std.proofs.Common.{ap, Option}
-use Rattle.std.specs.Prelude.{unwrap_or}
 use Rattle.watch_lists.specs.Trace.{value_of}
-use Rattle.cdcl_core.specs.Marked.{mark_of, lower, IsAdded}
+use Rattle.cdcl_core.specs.Marked.{lower, IsAdded}
 use Rattle.cdcl_core.proofs.Holding.{mark_again, mark_waits, mark_low, is_open, not_open, keep_true, room_above, room_below}
 use Rattle.cdcl_core.proofs.marks.Marks.mark.Goals as goal
 
