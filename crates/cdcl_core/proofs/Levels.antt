@@ -1,5 +1,5 @@
 -- Lemmas on levels of false literals.
-use Rattle.std.proofs.Common.{◌≡◌, ◌≢◌, ℕ, ◌+◌, ◌-◌, ◌<◌, ◌≤◌, true, false, List, [], ◌∷◌, length, refl, ap, sym, ◌∙◌, arith, cond, inl, inr, Some, None, Option, get_or, take, option_map}
+use Rattle.std.proofs.Common.{◌≡◌, ℕ, ◌+◌, ◌-◌, ◌<◌, ◌≤◌, true, false, List, [], ◌∷◌, length, refl, ap, sym, ◌∙◌, arith, cond, inl, inr, Some, None, Option, get_or, take, option_map}
 use Rattle.std.specs.Prelude.{nat_lt}
 use Rattle.std.proofs.lemmas.Bool.{cases_lt}
 use Rattle.std.proofs.lemmas.List.{take_more}
@@ -41,12 +41,6 @@ lt_false a b h = let t : nat_lt a b ≡ false = grind arith in rw t refl
 
 cond_mono : (a b lv : ℕ) → a ≤ b → cond (nat_lt b lv) 1 0 ≤ cond (nat_lt a lv) 1 0
 cond_mono a b lv h = elim (cases_lt b lv) [ inl g ↦ omega (arith, lt_true b lv g, lt_true a lv (omega arith)) | inr g ↦ omega (arith, lt_false b lv g) ]
-
-pub count_more : (L lv i count : ℕ) (es : List Entry) (c : List Lit) → i < length c → 1 ≤ L → lv ≡ L → count ≡ room_of (upto (L - 1) es) (take i c) → ((k : ℕ) → room_in (value_of (upto k es) (get_or c i no_lit)) ≡ cond (nat_lt k lv) 1 0) → count + 1 ≡ room_of (upto (L - 1) es) (take (i + 1) c)
-count_more L lv i count es c h p q e r = omega (arith, room_take (upto (L - 1) es) c i no_lit h, r (L - 1), lt_true (L - 1) lv (omega arith), e)
-
-pub count_same : (L lv i count : ℕ) (es : List Entry) (c : List Lit) → i < length c → 1 ≤ L → lv ≤ L → lv ≢ L → count ≡ room_of (upto (L - 1) es) (take i c) → ((k : ℕ) → room_in (value_of (upto k es) (get_or c i no_lit)) ≡ cond (nat_lt k lv) 1 0) → count ≡ room_of (upto (L - 1) es) (take (i + 1) c)
-count_same L lv i count es c h p le q e r = omega (arith, room_take (upto (L - 1) es) c i no_lit h, r (L - 1), lt_false (L - 1) lv (omega arith), e)
 
 pub back_rise : (L lv i : ℕ) (es : List Entry) (c : List Lit) → i < length c → ((k : ℕ) → k < L → room_of (upto (L - 1) es) (take i c) ≤ room_of (upto k es) (take i c)) → ((k : ℕ) → room_in (value_of (upto k es) (get_or c i no_lit)) ≡ cond (nat_lt k lv) 1 0) →
     (k : ℕ) → k < L → room_of (upto (L - 1) es) (take (i + 1) c) ≤ room_of (upto k es) (take (i + 1) c)

@@ -1,4 +1,5 @@
 pub mod Analysis
+pub mod Marked
 pub mod Choices
 pub mod Turns
 pub mod Asking

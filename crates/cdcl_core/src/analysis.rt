@@ -1,15 +1,17 @@
 // Conflict analysis: back along the trail by resolution.
-ghost use Rattle.std.specs.Prelude.{◌≡◌, ◌+◌, ◌-◌, ◌<◌, ◌≤◌, ℕ, false, length, IfOk, Some, nat_lt};
-ghost use Rattle.std.specs.Prelude.{if◌then◌else◌};
-ghost use Rattle.clause_store.specs.Lits.{InRange};
+ghost use Rattle.std.specs.Prelude.{◌≡◌, ◌+◌, ◌-◌, ◌<◌, ◌≤◌, ◌++◌, ◌∷◌, [], ℕ, false, length, IfOk};
+ghost use Rattle.std.specs.Prelude.{OnOk, Some, nat_lt, if◌then◌else◌, slice_set};
+ghost use Rattle.std.specs.List.{AllByRecursion};
+ghost use Rattle.clause_store.specs.Clauses.{clause_at};
+ghost use Rattle.clause_store.specs.Lits.{Ascends, InRange, IsWithin, negated};
+ghost use Rattle.clause_store.specs.Refutes.{Refutes};
 ghost use Rattle.watch_lists.specs.Trace.{room_of, upto, value_of, IsFalsified, IsComplete};
 ghost use Rattle.watch_lists.specs.Trace.{room_in};
-ghost use Rattle.clause_store.specs.Clauses.{clause_at};
 ghost use Rattle.solver_laws.specs.Ready.{IsFalseIn, IsLesson, IsBarred, DecidesOnly};
-ghost use Rattle.clause_store.specs.Refutes.{Refutes};
-ghost use Rattle.std.specs.List.{AllByRecursion};
 ghost use Rattle.cdcl_core.specs.Analysis.{CanAnalyse};
+ghost use Rattle.cdcl_core.specs.Marked.{AreClear, IsAdded, lower, others};
 
+use crate::marks::Marks;
 use clause_store::{Clause, ClauseList, Lit};
 use derivation_log::{Chain, Link};
 use edge::NoMemory;
@@ -28,7 +30,7 @@ pub struct Lesson {
 }
 
 /// The level of a false literal.
-fn level_at(trail: &Trail, lit: Lit) -> u32
+pub fn level_at(trail: &Trail, lit: Lit) -> u32
     requires named { 1 ≤ lit.var }
     requires in_range { lit.var ≤ trail.now.vars }
     requires is_false { value_of trail.now.entries lit ≡ Some false }
@@ -41,22 +43,6 @@ fn level_at(trail: &Trail, lit: Lit) -> u32
         Some(level) => level,
         None => 0,
     }
-}
-
-/// How many of the literals are of the trail's level.
-fn count_at(lits: &[Lit], trail: &Trail) -> usize
-    requires in_range { InRange trail.now.vars lits.now }
-    requires is_false { AllByRecursion (IsFalseIn trail.now.entries) lits.now }
-    requires level { 1 ≤ trail.now.level }
-    ensures { result ≡ room_of (upto (trail.now.level - 1) trail.now.entries) lits.now }
-{
-    let mut count = 0;
-    for lit in lits {
-        if level_at(trail, *lit) == trail.level() {
-            count += 1;
-        }
-    }
-    count
 }
 
 /// The greatest level below the trail's level of the literals; 0 where the search starts over.
@@ -81,12 +67,45 @@ pub fn back_level(lits: &[Lit], trail: &Trail, restart: bool) -> u32
     best
 }
 
+/// Resolves with the reason of a literal whose negation is in the clause. Answers to how many more
+/// literals the walk has to come.
+fn resolve(
+    known: &ClauseList,
+    trail: &Trail,
+    marks: &mut Marks,
+    lit: Lit,
+    number: u64,
+    level: u32,
+    chain: &mut Vec<Link>,
+) -> Result<usize, NoMemory>
+    requires within { number < length known.now.list }
+    requires vars { trail.now.vars ≡ known.now.vars }
+    requires lit { IsWithin trail.now.vars lit }
+    requires size { length marks.old.marked.items ≡ trail.now.vars + 1 }
+    ensures size { length marks.new.marked.items ≡ trail.now.vars + 1 }
+    ensures chain { OnOk result
+        (chain.new.items ≡ chain.old.items ++ record { pivot = negated lit; number = number } ∷ []) }
+    ensures added { IfOk result (λ count. IsAdded trail.now.entries
+        (lower level trail.now.entries) (slice_set marks.old.marked.items lit.var false)
+        marks.old.kept.items marks.new.marked.items marks.new.kept.items
+        (others (Some lit) (clause_at known.now.list number)) count) }
+    ensures ascends { OnOk result (Ascends (clause_at known.now.list number)) }
+    ensures in_range { OnOk result (InRange trail.now.vars (clause_at known.now.list number)) }
+{
+    let pivot = lit.negated();
+    chain.push(Link { pivot, number })?;
+    marks.unmark(lit.var);
+    let count = marks.add(trail, known.clause(number), Some(lit), level)?;
+    Ok(count)
+}
+
 /// Resolves a false clause with reasons until one literal of the level is left.
 pub fn learn<P: Propagator>(
     alloc: Global,
     known: &ClauseList,
     trail: &Trail,
     propagator: &P,
+    marks: &mut Marks,
     first: u64,
 ) -> Result<Lesson, NoMemory>
     requires can { CanAnalyse known.now (P.attached propagator.now) trail.now }
@@ -94,6 +113,9 @@ pub fn learn<P: Propagator>(
     requires complete { IsComplete (P.attached propagator.now)
         (upto (trail.now.level - 1) trail.now.entries) }
     requires falsified { IsFalsified (P.attached propagator.now) trail.now.entries first }
+    requires clear { AreClear trail.now.vars marks.old.marked.items marks.old.kept.items }
+    ensures clear { OnOk result (AreClear trail.now.vars marks.new.marked.items
+        marks.new.kept.items) }
     ensures lesson { IfOk result (λ made. IsLesson known.now.list known.now.vars made.first made.chain
         made.clause) }
     ensures is_false { IfOk result (λ made. AllByRecursion
@@ -102,29 +124,27 @@ pub fn learn<P: Propagator>(
         made.clause ≡ 1) }
 {
     let _ = propagator;
-    let mut clause = Clause::from_sorted(alloc, known.clause(first))?;
-    let mut spare = Clause::empty(alloc);
-    let mut chain = Vec::new(alloc);
     trail.facts();
+    let level = trail.level();
+    let mut chain = Vec::new(alloc);
+    let mut count = marks.add(trail, known.clause(first), None, level)?;
     let mut left = trail.len();
-    let mut count = count_at(clause.lits(), trail);
-    'back: while count > 1 {
+    'back: loop {
         left -= 1;
         let entry = trail.entry(left);
-        let pivot = entry.lit.negated();
-        if clause.has(pivot) {
+        if marks.is_marked(entry.lit.var) {
+            if count == 1 {
+                marks.keep(entry.lit.negated())?;
+                break;
+            }
             let Some(number) = entry.reason else {
                 unreachable!();
             };
-            let made = clause.resolve(pivot, known.clause(number), spare)?;
-            spare = clause;
-            clause = made;
-            chain.push(Link { pivot, number })?;
-            count = count_at(clause.lits(), trail);
+            count = count - 1 + resolve(known, trail, marks, entry.lit, number, level, &mut chain)?;
         }
     }
     Ok(Lesson {
-        clause,
+        clause: marks.finish(alloc)?,
         first,
         chain: Chain::from_vec(chain),
     })
@@ -136,6 +156,7 @@ pub fn claim<P: Propagator>(
     known: &ClauseList,
     trail: &Trail,
     propagator: &P,
+    marks: &mut Marks,
     first: u64,
     assumptions: &[Lit],
 ) -> Result<Lesson, NoMemory>
@@ -144,32 +165,33 @@ pub fn claim<P: Propagator>(
     requires within { first < length known.now.list }
     requires barred { AllByRecursion (IsBarred assumptions.now trail.now.entries)
         (clause_at known.now.list first) }
+    requires clear { AreClear trail.now.vars marks.old.marked.items marks.old.kept.items }
+    ensures clear { OnOk result (AreClear trail.now.vars marks.new.marked.items
+        marks.new.kept.items) }
     ensures lesson { IfOk result (λ made. IsLesson known.now.list known.now.vars made.first made.chain
         made.clause) }
     ensures refutes { IfOk result (λ made. Refutes made.clause assumptions.now) }
 {
     let _ = propagator;
     let _ = assumptions;
-    let mut clause = Clause::from_sorted(alloc, known.clause(first))?;
-    let mut spare = Clause::empty(alloc);
-    let mut chain = Vec::new(alloc);
     trail.facts();
+    let mut chain = Vec::new(alloc);
+    marks.add(trail, known.clause(first), None, 0)?;
     let mut left = trail.len();
     'back: while left > 0 {
         left -= 1;
         let entry = trail.entry(left);
-        let pivot = entry.lit.negated();
-        if clause.has(pivot) {
-            if let Some(number) = entry.reason {
-                let made = clause.resolve(pivot, known.clause(number), spare)?;
-                spare = clause;
-                clause = made;
-                chain.push(Link { pivot, number })?;
+        if marks.is_marked(entry.lit.var) {
+            match entry.reason {
+                Some(number) => {
+                    let _ = resolve(known, trail, marks, entry.lit, number, 0, &mut chain)?;
+                }
+                None => marks.keep(entry.lit.negated())?,
             }
         }
     }
     Ok(Lesson {
-        clause,
+        clause: marks.finish(alloc)?,
         first,
         chain: Chain::from_vec(chain),
     })

@@ -11,10 +11,12 @@ ghost use Rattle.std.specs.List.{AllByRecursion};
 ghost use Rattle.cdcl_core.specs.Asking.{IsAsking, IsTurn};
 ghost use Rattle.clause_store.specs.Lits.{InRange};
 ghost use Rattle.cdcl_core.specs.Turns.{IsKept, IsLearned};
+ghost use Rattle.cdcl_core.specs.Marked.{AreClear};
 ghost use Rattle.cdcl_core.specs.Replies.{IsClaimed};
 
 use crate::analysis::{Lesson, back_level, claim};
 use crate::choice::{Choice, choose};
+use crate::marks::Marks;
 use crate::order::Order;
 use clause_store::Lit;
 use derivation_log::{Derivations, Step, StepKind};
@@ -154,6 +156,7 @@ pub fn refute<P: Propagator>(
     log: &mut Derivations,
     trail: &Trail,
     propagator: &P,
+    marks: &mut Marks,
     first: u64,
     assumptions: &[Lit],
 ) -> Result<u64, NoMemory>
@@ -163,13 +166,24 @@ pub fn refute<P: Propagator>(
     requires within { first < length (known_of log.old) }
     requires barred { AllByRecursion (IsBarred assumptions.now trail.now.entries)
         (clause_at (known_of log.old) first) }
+    requires clear { AreClear trail.now.vars marks.old.marked.items marks.old.kept.items }
+    ensures clear { OnOk result (AreClear trail.now.vars marks.new.marked.items
+        marks.new.kept.items) }
     ensures ok { IfOk result (λ number. (number ≡ length (known_of log.old)) ×
         IsClaimed log.old log.new assumptions.now) }
     ensures err { OnErr result (log.new ≡ log.old) }
     ensures ready { IsReady log.new (P.attached propagator.now) (P.followed propagator.now)
         (P.vars propagator.now) trail.now }
 {
-    let made = claim(alloc, log.known(), trail, propagator, first, assumptions)?;
+    let made = claim(
+        alloc,
+        log.known(),
+        trail,
+        propagator,
+        marks,
+        first,
+        assumptions,
+    )?;
     let number = log.append(Step {
         kind: StepKind::Claimed,
         clause: made.clause,

@@ -4,6 +4,7 @@
 mod analysis;
 mod choice;
 mod engine;
+mod marks;
 mod order;
 mod reply;
 mod searching;

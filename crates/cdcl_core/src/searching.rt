@@ -5,11 +5,13 @@ ghost use Rattle.clause_store.specs.Lits.{InRange};
 ghost use Rattle.derivation_log.specs.Logs.{known_of};
 ghost use Rattle.watch_lists.specs.Trace.{value_of};
 ghost use Rattle.solver_laws.specs.Ready.{IsReady, IsLog, DecidesOnly};
+ghost use Rattle.cdcl_core.specs.Marked.{AreClear};
 ghost use Rattle.cdcl_core.specs.Replies.{IsAnswered, IsLonger, IsClaimed};
 
 use crate::analysis::learn;
 use crate::choice::values;
 use crate::engine::{Turn, descend, keep, refute, retreat};
+use crate::marks::Marks;
 use crate::order::Order;
 use crate::reply::Reply;
 use clause_store::Lit;
@@ -24,6 +26,7 @@ fn refute_contrary<P: Propagator>(
     log: &mut Derivations,
     trail: &Trail,
     propagator: &P,
+    marks: &mut Marks,
     lit: Lit,
     assumptions: &[Lit],
 ) -> Result<u64, NoMemory>
@@ -34,6 +37,9 @@ fn refute_contrary<P: Propagator>(
     requires in_range { InRange trail.now.vars assumptions.now }
     requires asked { Contains assumptions.now lit }
     requires is_false { value_of trail.now.entries lit ≡ Some false }
+    requires clear { AreClear trail.now.vars marks.old.marked.items marks.old.kept.items }
+    ensures clear { OnOk result (AreClear trail.now.vars marks.new.marked.items
+        marks.new.kept.items) }
     ensures ok { IfOk result (λ number. (number ≡ length (known_of log.old)) ×
         IsClaimed log.old log.new assumptions.now) }
     ensures err { OnErr result (log.new ≡ log.old) }
@@ -43,7 +49,7 @@ fn refute_contrary<P: Propagator>(
     trail.facts();
     match trail.reason_of(lit.var) {
         Some(first) => {
-            let number = refute(alloc, log, trail, propagator, first, assumptions)?;
+            let number = refute(alloc, log, trail, propagator, marks, first, assumptions)?;
             Ok(number)
         }
         None => unreachable!(),
@@ -56,6 +62,7 @@ pub fn search<P: Propagator>(
     log: &mut Derivations,
     trail: &mut Trail,
     propagator: &mut P,
+    marks: &mut Marks,
     order: &mut Order,
     assumptions: &[Lit],
     budget: u64,
@@ -65,6 +72,9 @@ pub fn search<P: Propagator>(
     requires rest { trail.old.level ≡ 0 }
     requires in_range { InRange trail.old.vars assumptions.now }
     requires distinct { AllPairs (λ a b. a.var ≢ b.var) assumptions.now }
+    requires clear { AreClear trail.old.vars marks.old.marked.items marks.old.kept.items }
+    ensures clear { OnOk result (AreClear trail.new.vars marks.new.marked.items
+        marks.new.kept.items) }
     ensures ready { OnOk result (IsReady log.new (P.attached propagator.new)
         (P.followed propagator.new) (P.vars propagator.new) trail.new) }
     ensures rest { OnOk result (trail.new.level ≡ 0) }
@@ -80,17 +90,17 @@ pub fn search<P: Propagator>(
         match next {
             Turn::Conflict(number) => {
                 if trail.level() <= opened {
-                    let step = refute(alloc, log, trail, propagator, number, assumptions)?;
+                    let step = refute(alloc, log, trail, propagator, marks, number, assumptions)?;
                     retreat(log, trail, propagator, order, 0);
                     return Ok(Reply::Refuted(step));
                 }
-                let lesson = learn(alloc, log.known(), trail, propagator, number)?;
+                let lesson = learn(alloc, log.known(), trail, propagator, marks, number)?;
                 let restart = order.learn(lesson.clause.lits(), lesson.chain.as_slice());
                 let level = keep(log, trail, propagator, order, lesson, restart)?;
                 assumed = opened.min(level);
             }
             Turn::Contrary(lit) => {
-                let step = refute_contrary(alloc, log, trail, propagator, lit, assumptions)?;
+                let step = refute_contrary(alloc, log, trail, propagator, marks, lit, assumptions)?;
                 retreat(log, trail, propagator, order, 0);
                 return Ok(Reply::Refuted(step));
             }

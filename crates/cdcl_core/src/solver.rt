@@ -9,6 +9,7 @@ ghost use Rattle.solver_laws.specs.Ready.{IsLog, AllFit};
 ghost use Rattle.cdcl_core.specs.Replies.{IsAnswered, IsJust, IsLonger, IsDecided};
 ghost use Rattle.cdcl_core.specs.State.{State};
 
+use crate::marks::Marks;
 use crate::order::Order;
 use crate::reply::Reply;
 use crate::searching::search;
@@ -25,6 +26,7 @@ pub struct Solver<P: Propagator + Drop> {
     log: Derivations,
     trail: Trail,
     propagator: P,
+    marks: Marks,
     order: Order,
     failed: bool,
     alloc: Global,
@@ -39,7 +41,8 @@ impl<P: Propagator + Drop> Model for Solver<P> {
     ghost view = { λ s. record { log = s.log; failed = s.failed } };
 
     ghost invariant = { λ s. IsResting s.log s.failed (P.attached s.propagator)
-        (P.followed s.propagator) (P.vars s.propagator) s.trail };
+        (P.followed s.propagator) (P.vars s.propagator) s.trail s.marks.marked.items
+        s.marks.kept.items };
 }
 
 impl<P: Propagator + Drop> Solver<P> {
@@ -54,6 +57,7 @@ impl<P: Propagator + Drop> Solver<P> {
         let vars = main.vars();
         let trail = Trail::new(alloc, vars)?;
         let mut propagator = P::new(alloc, vars)?;
+        let marks = Marks::new(alloc, vars)?;
         let order = Order::new(alloc, vars)?;
         let log = Derivations::new(alloc, main);
         attach_all(&log, &trail, &mut propagator)?;
@@ -61,6 +65,7 @@ impl<P: Propagator + Drop> Solver<P> {
             log,
             trail,
             propagator,
+            marks,
             order,
             failed: false,
             alloc,
@@ -84,6 +89,7 @@ impl<P: Propagator + Drop> Solver<P> {
             log,
             trail: _,
             propagator: _,
+            marks: _,
             order: _,
             failed: _,
             alloc: _,
@@ -129,6 +135,7 @@ impl<P: Propagator + Drop> Solver<P> {
             &mut self.log,
             &mut self.trail,
             &mut self.propagator,
+            &mut self.marks,
             &mut self.order,
             assumptions,
             budget,

@@ -4,6 +4,7 @@ use Rattle.clause_store.specs.Clauses.{Clauses}
 use Rattle.clause_store.specs.Lits.{InRange, AreInRange}
 use Rattle.derivation_log.specs.Logs.{known_of, learned_of}
 use Rattle.watch_lists.specs.Trace.{Trace, Attached, IsStacked}
+use Rattle.cdcl_core.specs.Marked.{AreClear}
 use Rattle.cdcl_core.specs.declared.engine.Turn.{Turn}
 use Rattle.cdcl_core.specs.Asking.{IsTurn}
 use Rattle.cdcl_core.proofs.Askings.{asking_back}
@@ -18,6 +19,7 @@ loop-turn-init g c =
       asking = record { le = omega arith; decides = decides_none c.args.assumptions.now 0 c.args.trail.now.entries st; each = λ j h k d lt. absurd (omega arith); free = λ h. absurd (omega (arith, c.requires.rest)) };
       grown = grown_none c.args.log.now c.requires.ready.log;
       vars = refl;
+      clear = c.requires.clear;
     }
 
 pub refute-requires-clause-within : goal.refute-requires-clause-within
@@ -68,4 +70,5 @@ loop-turn-preserved g c =
       asking = asking_back c.args.assumptions.now c.descend-opened.result.0 c.min-assumed.result c.in_ok-level-in-Conflict.level c.descend-opened.new.trail c.keep.new.trail c.descend-opened.ensures.asking (omega (arith, e.lower)) (search (rules, m)) (search (rules, m)) (λ h. (let q = m in grind (arith, q))) e.trail;
       grown = grown_more c.args.log.now c.loop-turn.log c.keep.new.log c.loop-turn.turn c.loop-turn.invariant.grown c.keep.ensures.log e.learned;
       vars = ap (λ (t : Trace). t.vars) e.trail ∙ c.descend-opened.ensures.vars ∙ c.loop-turn.invariant.vars;
+      clear = subst (λ (n : ℕ). AreClear n c.learn.new.marks.marked.items c.learn.new.marks.kept.items) (sym (ap (λ (t : Trace). t.vars) e.trail)) c.in_ok-lesson-in-Conflict.ensures.clear;
     }
