@@ -11,10 +11,10 @@ use Rattle.report_lines.specs.declared.kinds.Kind.{Kind}
 use Rattle.report_lines.specs.Judged.{IsAccepted}
 use Rattle.report_text.specs.PartsLaws.{PartsLaw}
 use Rattle.merge_cli.specs.Check.{accepted_text, SaysWrong, CheckAnswers, accepted, wrong}
-use Rattle.merge_cli.specs.StandIn.{StopsReport}
-use Rattle.merge_cli.specs.declared.standin.AcceptStop.{AcceptStop}
-use Rattle.merge_cli.specs.declared.standin.AcceptStop.TheVariants as stops
-use Rattle.merge_cli.specs.declared.standin.Refused.{Refused}
+use Rattle.report_text.specs.Accepting.{IsStop}
+use Rattle.report_text.specs.declared.accepting.AcceptStop.{AcceptStop}
+use Rattle.report_text.specs.declared.accepting.AcceptStop.TheVariants as stops
+use Rattle.report_text.specs.declared.accepting.Refused.{Refused}
 use Rattle.merge_cli.specs.Rows.{ProblemTextAnswers}
 use Rattle.merge_cli.specs.Commands.{IsCommand}
 use Rattle.merge_cli.specs.Answers.{Answers, Answered, CommandAnswers, ProblemAnswers, TextAnswers, of_command}
@@ -56,10 +56,10 @@ answered_by_check command read result is row =
 
 -- the reply that names the first wrong line
 pub wrong_line_reply : {E : Type 0} (read : List ℕ) (stop : AcceptStop) (refused : Refused) (result : Result Reply E) → stop ≡ stops.Refused refused
-    → StopsReport read stop → IfOk result (λ reply. SaysWrong refused reply.status reply.text.items)
+    → IsStop read stop → IfOk result (λ reply. SaysWrong refused reply.status reply.text.items)
     → IfOk result (λ reply. CheckAnswers read reply.status reply.text.items)
 wrong_line_reply read stop refused (Ok reply) is first says =
-    let P : AcceptStop → Type 0 = λ other. StopsReport read other in
+    let P : AcceptStop → Type 0 = λ other. IsStop read other in
     wrong refused.line refused.kind (subst P is first) says.0 says.1
 wrong_line_reply read stop refused (Err want) is first says = tt
 

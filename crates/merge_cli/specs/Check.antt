@@ -8,7 +8,7 @@ use Rattle.report_lines.specs.Accepted.{Parts}
 use Rattle.report_lines.specs.Judged.{IsAccepted, IsFirstWrong}
 use Rattle.report_lines.specs.Parts.{Asked, HasParts, kind_of_answer}
 use Rattle.report_text.specs.PartsLaws.{IsBorneOut}
-use Rattle.merge_cli.specs.declared.standin.Refused.{Refused}
+use Rattle.report_text.specs.declared.accepting.Refused.{Refused}
 use Rattle.merge_cli.specs.Refusals.{line_refusal_text}
 
 abbrev pub accepted_text : Kind → List ℕ

@@ -4,6 +4,5 @@ pub mod Commands
 pub mod Merge
 pub mod Refusals
 pub mod Rows
-pub mod StandIn
 pub use Rattle.edge.specs.Faults
 pub use Rattle.edge.specs.Streams

@@ -3,11 +3,11 @@ ghost use Rattle.merge_cli.specs.Check.{CheckAnswers, SaysWrong, accepted_text, 
 
 use crate::refusal::line_refusal;
 use crate::reply::{Reply, says};
-use crate::standin::{AcceptStop, Refused, accept};
 use crate::status::{ANSWERED, REFUSED_REPORT};
 use edge::NoMemory;
 use report_lines::{Kind, RefusedKind};
 use report_text::accepted_has_parts;
+use report_text::accepting::{AcceptStop, Refused, accept};
 use std::alloc::Global;
 
 /// What `check` answers to a text.

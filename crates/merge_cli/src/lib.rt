@@ -10,7 +10,6 @@ mod reading;
 mod refusal;
 mod reply;
 /// The exit statuses.
-mod standin;
 pub mod status;
 #[cfg(test)]
 mod tests;

@@ -9,5 +9,5 @@ returns c =
     let report = c.in_ok-report.report in
     let whole = report_text (asked_in report) (parts_in report) in
     let is = c.in_ok-report.ensures in
-    merge_answered _ _ _ c.args.problem report _ _ is.distance is.aggregator is.conflicts is.problem is.form is.borne_out is.truth c.status_for-status.ensures
+    merge_answered _ _ _ c.args.problem report _ _ is.distance is.aggregator is.conflicts is.problem is.form is.answer is.truth c.status_for-status.ensures
     (c.in_ok-write_report.ensures ∙ ap (λ (text : List ℕ). text ++ whole) c.new-text.ensures.items)
