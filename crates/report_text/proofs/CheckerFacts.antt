@@ -1,32 +1,25 @@
 -- How checkers judge the lines of an answer.
-use Rattle.std.proofs.Common.{◌≡◌, ◌≢◌, ℕ, ◌⊎◌, inl, inr, ◌+◌, Bool, true, false, cond, ◌==◌, nat_lt, List, Ok, Err, Result, Some, refl, ap, sym, subst, ◌∙◌}
+use Rattle.std.proofs.Common.{◌≡◌, ℕ, inl, inr, ◌+◌, Bool, true, false, cond, ◌==◌, nat_lt, List, Ok, Err, ap, sym, subst, ◌∙◌}
 use Rattle.merge_model.specs.declared.operator.AggregatorName.{AggregatorName}
 use Rattle.merge_model.specs.declared.operator.DistanceName.{DistanceName}
 use Rattle.merge_model.specs.declared.problem.Problem.{Problem}
 use Rattle.problem_reading.specs.Drafts.{Draft}
 use Rattle.report_lines.specs.declared.kinds.RefusedKind.{RefusedKind}
 use Rattle.report_lines.specs.declared.kinds.Subject.TheVariants.{TheConstraint, BaseOf}
-use Rattle.report_words.specs.Words.{words_of}
 use Rattle.report_lines.specs.declared.kinds.Due.{Due}
 use Rattle.report_lines.specs.declared.kinds.Due.TheVariants as due
-use Rattle.report_lines.specs.Items.{Item, ModelLine, VectorLine, NearestLine, MeasureLine, VerdictLine, NoModelLine, HasModelLine, GaveUpLine, MainLine, item_words}
+use Rattle.report_lines.specs.Items.{Item, ModelLine, VectorLine, NearestLine, MeasureLine, VerdictLine, NoModelLine, HasModelLine, MainLine}
 use Rattle.report_lines.specs.Places.{Position, start, IsAnswerLine, IsNamedLine, IsDue, DueAt, agents_at, asks_at}
-use Rattle.report_lines.specs.Following.{LeadsTo, Fails, due_after_verdicts, due_after_named}
-use Rattle.report_lines.specs.Judged.{IsRight, IsRightAs, IsWrongAs, absent, faulty}
+use Rattle.report_lines.specs.Following.{LeadsTo, Fails, due_after_verdicts}
+use Rattle.report_lines.specs.Judged.{IsRightAs, IsWrongAs, absent, faulty}
 use Rattle.report_text.specs.declared.answering.Answering.{Answering}
-use Rattle.report_text.specs.declared.checker.Checker.{Checker}
 use Rattle.report_text.specs.declared.checker.Checker.TheVariants as checkers
-use Rattle.report_text.specs.declared.front.FrontDue.{FrontDue}
-use Rattle.report_text.specs.declared.front.FrontDue.TheVariants as front
-use Rattle.report_text.specs.declared.logging.LogDue.{LogDue}
-use Rattle.report_text.specs.declared.logging.LogDue.TheVariants as log
 use Rattle.report_text.specs.declared.stop.LineStop.{LineStop}
 use Rattle.report_text.specs.declared.stop.LineStop.TheVariants as stops
 use Rattle.report_text.specs.Answering as answering
-use Rattle.report_text.specs.Front.{due_of, LeavesAnswers, States}
+use Rattle.report_text.specs.Front.{LeavesAnswers, States}
 use Rattle.report_text.specs.Judging.{JudgedAs}
-use Rattle.report_text.specs.Logging.{due_at}
-use Rattle.report_text.specs.Checker.{IsBegun, StandsInAnswer, Stands, IsFit, IsOver, IsNext}
+use Rattle.report_text.specs.Checker.{IsBegun, StandsInAnswer, IsNext}
 
 -- the first line of an answer leads on as if queries were due, and past that place
 

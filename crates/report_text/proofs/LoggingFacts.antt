@@ -1,5 +1,5 @@
 -- What is known where a state of the log stands.
-use Rattle.std.proofs.Common.{◌≡◌, ◌≢◌, ℕ, ◌+◌, ◌<◌, ◌≤◌, ◌==◌, nat_le, nat_lt, ◌&&◌, ◌⊎◌, inl, inr, Bool, true, false, List, [], ◌∷◌, ◌++◌, length, map, take, drop, get_or, refl, ap, sym, subst, ◌∙◌, arith, length-append, length-drop, add-one, drop-cons, suc, Ok, Err, Result, Option, Some}
+use Rattle.std.proofs.Common.{◌≡◌, ◌≢◌, ℕ, ◌+◌, ◌<◌, ◌≤◌, ◌==◌, nat_le, nat_lt, ◌&&◌, inl, inr, Bool, true, false, List, [], ◌∷◌, ◌++◌, length, map, take, drop, get_or, refl, ap, sym, subst, ◌∙◌, arith, length-append, length-drop, add-one, drop-cons, suc, Ok, Err, Result, Option, Some}
 use Rattle.std.specs.Prelude.{IsTrue, ◌↔◌, slice_get, unwrap_or}
 use Rattle.std.proofs.lemmas.Bool.Decides.{nat_tests}
 use Rattle.report_words.proofs.Spelling.{line_at}
@@ -17,7 +17,7 @@ use Rattle.clause_store.specs.declared.lit.Lit.{Lit}
 use Rattle.clause_store.specs.Clauses.{Clauses, clause_at}
 use Rattle.derivation_log.specs.declared.step.StepKind.{StepKind}
 use Rattle.derivation_log.specs.Logs.{is_learned}
-use Rattle.derivation_log.specs.StepLines.{StepLine, IsStep, IsStepLine, step_words}
+use Rattle.derivation_log.specs.StepLines.{StepLine, IsStepLine, step_words}
 use Rattle.derivation_log.proofs.StepLaws.{step_at_line}
 use Rattle.log_lines.specs.Spending.{Noted, noted_of, is_spent, ends_new}
 use Rattle.log_lines.specs.Taking.{is_step, after_step, narrow_step}
@@ -42,7 +42,7 @@ use Rattle.report_text.specs.declared.logging.LogDue.TheVariants as log
 use Rattle.report_text.specs.declared.logging.Logging.{Logging}
 use Rattle.report_text.specs.Answering.{due_claim}
 use Rattle.report_text.specs.Judging.{JudgedAs, IsJudged}
-use Rattle.report_text.specs.Logging.{due_at, main_in, steps_in, claims_in, IsFitLog, StandsAtLog, refutes_from}
+use Rattle.report_text.specs.Logging.{main_in, steps_in, claims_in, StandsAtLog, refutes_from}
 
 noted_clauses : (kinds : List StepKind) (cs : List (List Lit)) → length kinds ≡ length cs → map (λ (n : Noted). n.clause) (noted_of kinds cs) ≡ cs
 noted_clauses [] [] h = refl

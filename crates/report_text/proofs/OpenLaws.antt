@@ -1,5 +1,5 @@
 -- What stands while a text comes in pieces: it begins, a piece comes, a line is taken, a line is wrong, the text is over.
-use Rattle.std.proofs.Common.{◌≡◌, ◌≢◌, ℕ, ◌+◌, Bool, true, false, cond, List, [], ◌∷◌, ◌++◌, length, Err, refl, ap, sym, subst, ◌∙◌, append_assoc, length-append, arith}
+use Rattle.std.proofs.Common.{◌≡◌, ◌≢◌, ℕ, ◌+◌, Bool, true, false, cond, List, [], ◌∷◌, ◌++◌, refl, ap, sym, subst, ◌∙◌, append_assoc, length-append, arith}
 use Rattle.std.specs.Prelude.{eqb}
 use Rattle.std.specs.List.{onto_first}
 use Rattle.std.proofs.lemmas.List.{append-nil}
@@ -8,7 +8,7 @@ use Rattle.report_lines.specs.declared.kinds.Due.TheVariants as due
 use Rattle.report_lines.specs.declared.kinds.RefusedKind.{RefusedKind}
 use Rattle.report_lines.specs.declared.kinds.RefusedKind.TheVariants as refused
 use Rattle.report_lines.specs.Places.{Position, start}
-use Rattle.report_lines.specs.Judged.{IsRight, IsWrong, AreRight, pieces_of, IsWrongNext, unended, after_end, wrong_line, IsFirstWrong, IsAccepted}
+use Rattle.report_lines.specs.Judged.{IsRight, IsWrong, AreRight, pieces_of, unended, after_end, wrong_line, IsFirstWrong, IsAccepted}
 use Rattle.report_text.specs.Accepting.{HasNoFeed}
 use Rattle.report_text.specs.Open.{Open}
 

@@ -1,4 +1,3 @@
-use Rattle.std.proofs.Common.{rules, sym}
 use Rattle.report_text.specs.Checker.{IsOver}
 use Rattle.report_text.proofs.AcceptingFacts.{line_late, line_right, line_stop}
 use Rattle.report_text.proofs.accepting.take_line.Goals as goal

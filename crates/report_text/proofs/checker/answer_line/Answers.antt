@@ -1,4 +1,3 @@
-use Rattle.std.proofs.Common.{rules}
 use Rattle.report_text.specs.Answering.{StandsAtAnswer}
 use Rattle.report_text.proofs.CheckerFacts.{later_stop, later_next}
 use Rattle.report_text.proofs.checker.answer_line.Goals as goal

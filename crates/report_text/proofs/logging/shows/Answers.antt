@@ -1,4 +1,4 @@
-use Rattle.std.proofs.Common.{◌≡◌, ◌<◌, ◌≤◌, length, arith, ap, sym, ◌∙◌, subst}
+use Rattle.std.proofs.Common.{◌≡◌, ◌<◌, ◌≤◌, length, arith, ◌∙◌}
 use Rattle.merge_encoding.specs.Assumptions.{assumed_in}
 use Rattle.merge_encoding.specs.Claims.{said}
 use Rattle.report_text.proofs.LoggingFacts.{refutes_is}

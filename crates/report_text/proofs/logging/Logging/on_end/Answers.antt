@@ -1,4 +1,4 @@
-use Rattle.std.proofs.Common.{rules, ◌≡◌, refl, sym, ap, ◌∙◌, true, false}
+use Rattle.std.proofs.Common.{rules, refl, sym, ◌∙◌}
 use Rattle.report_lines.specs.Items.{EndLine}
 use Rattle.report_lines.specs.Places.{end_number}
 use Rattle.report_lines.specs.Following.{after}

@@ -1,4 +1,4 @@
-use Rattle.std.proofs.Common.{rules, ◌≡◌, refl, sym, ap, ◌∙◌, true, false}
+use Rattle.std.proofs.Common.{rules}
 use Rattle.report_text.specs.Logging.{StandsAtLog}
 use Rattle.report_text.proofs.LoggingFacts.{step_right, step_wrong, same_stands, proof_in_log}
 use Rattle.report_text.proofs.logging.Logging.on_log.Goals as goal

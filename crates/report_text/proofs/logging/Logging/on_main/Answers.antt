@@ -1,4 +1,4 @@
-use Rattle.std.proofs.Common.{rules, ◌≡◌, refl, sym, ◌∙◌, true, false}
+use Rattle.std.proofs.Common.{refl, sym, ◌∙◌, true, false}
 use Rattle.report_lines.specs.Items.{MainLine}
 use Rattle.report_lines.specs.Following.{after}
 use Rattle.report_lines.specs.Judged.{faulty}

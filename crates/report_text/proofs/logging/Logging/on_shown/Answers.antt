@@ -1,4 +1,4 @@
-use Rattle.std.proofs.Common.{rules, ◌≡◌, refl, sym, ap, ◌∙◌, true, false}
+use Rattle.std.proofs.Common.{rules, refl, sym, ◌∙◌, true, false}
 use Rattle.report_lines.specs.Items.{ShownLine}
 use Rattle.report_lines.specs.Following.{after}
 use Rattle.report_lines.specs.Judged.{faulty}
