@@ -9,9 +9,8 @@ use Rattle.merge_cli.specs.declared.commands.Command.TheVariants.{Merge, Check}
 use Rattle.merge_cli.specs.declared.reply.Reply.{Reply}
 use Rattle.report_lines.specs.declared.kinds.Kind.{Kind}
 use Rattle.report_lines.specs.Judged.{IsAccepted}
-use Rattle.report_text.specs.PartsLaws.{PartsLaw}
 use Rattle.merge_cli.specs.Check.{accepted_text, SaysWrong, CheckAnswers, accepted, wrong}
-use Rattle.report_text.specs.Accepting.{IsStop}
+use Rattle.report_text.specs.Accepting.{IsBorneOutText, IsStop}
 use Rattle.report_text.specs.declared.accepting.AcceptStop.{AcceptStop}
 use Rattle.report_text.specs.declared.accepting.AcceptStop.TheVariants as stops
 use Rattle.report_text.specs.declared.accepting.Refused.{Refused}
@@ -64,10 +63,8 @@ wrong_line_reply read stop refused (Ok reply) is first says =
 wrong_line_reply read stop refused (Err want) is first says = tt
 
 -- the reply that names the kind of an accepted report
-pub accepted_reply : {E : Type 0} (read : List ℕ) (k : Kind) (line : List ℕ) (result : Result Reply E) → PartsLaw → IsAccepted read k → line ≡ accepted_text k
+pub accepted_reply : {E : Type 0} (read : List ℕ) (k : Kind) (line : List ℕ) (result : Result Reply E) → IsAccepted read k → IsBorneOutText read k → line ≡ accepted_text k
     → IfOk result (λ reply. (reply.status ≡ 0) × (reply.text.items ≡ line))
     → IfOk result (λ reply. CheckAnswers read reply.status reply.text.items)
-accepted_reply read k line (Ok reply) law is said says =
-    let found = law read k is in
-    accepted k is (record { asked = found.0; parts = found.1; report = found.2; answer = found.3; borne_out = found.4 }) says.0 (says.1 ∙ said)
-accepted_reply read k line (Err stop) law is said says = tt
+accepted_reply read k line (Ok reply) is borne_out said says = accepted k is borne_out says.0 (says.1 ∙ said)
+accepted_reply read k line (Err stop) is borne_out said says = tt

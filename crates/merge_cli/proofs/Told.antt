@@ -19,7 +19,8 @@ use Rattle.report_lines.proofs.Once.{once}
 use Rattle.merge_cli.specs.declared.commands.Command.{Command}
 use Rattle.merge_cli.specs.declared.commands.Command.TheVariants.{Check}
 use Rattle.merge_cli.specs.Commands.{IsCommand, IsNoCommand, merge_of, limit_of, Reads, ReadsProblem}
-use Rattle.merge_cli.specs.Check.{accepted_text, wrong_line_text, IsTrueReport, CheckAnswers, accepted, wrong}
+use Rattle.report_text.specs.Accepting.{IsBorneOutText}
+use Rattle.merge_cli.specs.Check.{accepted_text, wrong_line_text, CheckAnswers, accepted, wrong}
 use Rattle.merge_cli.specs.Merge.{MergeAnswers, ReportsMerge, ReportsLack, ReportsSpent, main_vars, merged, inconsistent, gave_up}
 use Rattle.merge_cli.specs.Refusals.{refusal_text, too_long_text}
 use Rattle.merge_cli.specs.Rows.{ReadAnswers, too_long, of_text, refused, of_problem}
@@ -223,7 +224,7 @@ module _ (words : List (List ℕ)) (before now : Option (List ℕ)) (room_before
     accepted_row bytes status text k (told_check_run bytes asks),
   )
 
-  pub checked_true_run : (bytes : List ℕ) → AsksCheck before words bytes → status ≡ 0 → (k : Kind) × (text ≡ accepted_text k) × IsTrueReport bytes k
+  pub checked_true_run : (bytes : List ℕ) → AsksCheck before words bytes → status ≡ 0 → (k : Kind) × (text ≡ accepted_text k) × IsBorneOutText bytes k
   checked_true_run bytes asks none = elim (told_check_run bytes asks) [
     | accepted k is true one said ↦ (k, said, true)
     | wrong line l is one said ↦ absurd (omega arith)

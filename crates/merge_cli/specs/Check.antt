@@ -4,10 +4,8 @@ use Rattle.report_lines.specs.declared.kinds.Kind.{Kind}
 use Rattle.report_lines.specs.declared.kinds.Kind.TheVariants as kind
 use Rattle.report_lines.specs.declared.kinds.RefusedKind.{RefusedKind}
 use Rattle.report_lines.specs.declared.kinds.RefusedKind.TheVariants as refused
-use Rattle.report_lines.specs.Accepted.{Parts}
 use Rattle.report_lines.specs.Judged.{IsAccepted, IsFirstWrong}
-use Rattle.report_lines.specs.Parts.{Asked, HasParts, kind_of_answer}
-use Rattle.report_text.specs.PartsLaws.{IsBorneOut}
+use Rattle.report_text.specs.Accepting.{IsBorneOutText}
 use Rattle.report_text.specs.declared.accepting.Refused.{Refused}
 use Rattle.merge_cli.specs.Refusals.{line_refusal_text}
 
@@ -32,15 +30,7 @@ wrong_line_text line k = line_refusal_text line (wrong_word k)
 abbrev pub SaysWrong : Refused → ℕ → List ℕ → Type 0
 SaysWrong refused status text = (status ≡ 7) × (text ≡ wrong_line_text refused.line refused.kind)
 
--- the text is the report of parts that bear its answer out, and the answer is of this kind
-pub record IsTrueReport (text : List ℕ) (k : Kind) : Type 0 where
-  pub asked : Asked
-  pub parts : Parts
-  pub report : HasParts text asked parts
-  pub answer : kind_of_answer parts.answer ≡ k
-  pub borne_out : IsBorneOut asked parts
-
 -- the answers to a text
 pub data CheckAnswers (read : List ℕ) (status : ℕ) (text : List ℕ) : Type 0 where
-  accepted : (k : Kind) → IsAccepted read k → IsTrueReport read k → status ≡ 0 → text ≡ accepted_text k → CheckAnswers read status text
+  accepted : (k : Kind) → IsAccepted read k → IsBorneOutText read k → status ≡ 0 → text ≡ accepted_text k → CheckAnswers read status text
   wrong : (line : ℕ) (k : RefusedKind) → IsFirstWrong read line k → status ≡ 7 → text ≡ wrong_line_text line k → CheckAnswers read status text

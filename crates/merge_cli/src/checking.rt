@@ -6,15 +6,13 @@ use crate::reply::{Reply, says};
 use crate::status::{ANSWERED, REFUSED_REPORT};
 use edge::NoMemory;
 use report_lines::{Kind, RefusedKind};
-use report_text::accepted_has_parts;
-use report_text::accepting::{AcceptStop, Refused, accept};
+use report_text::{AcceptStop, Refused, accept};
 use std::alloc::Global;
 
 /// What `check` answers to a text.
 pub fn check_reply(alloc: Global, bytes: &[u8]) -> Result<Reply, NoMemory>
     ensures { IfOk result (λ reply. CheckAnswers bytes.now reply.status reply.text.items) }
 {
-    accepted_has_parts();
     match accept(alloc, bytes) {
         Ok(kind) => says(alloc, ANSWERED, line_of_kind(kind)),
         Err(AcceptStop::Refused(refused)) => wrong_reply(alloc, refused),

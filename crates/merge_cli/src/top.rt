@@ -8,7 +8,7 @@ ghost use Rattle.merge_cli.specs.Answers.{Answers, Answered, CommandAnswers, Tex
 ghost use Rattle.merge_cli.specs.Answers.{ProblemAnswers, IsReading, IsUnread, IsTooMuch};
 ghost use Rattle.merge_cli.specs.Answers.{AsksText, AsksProblem};
 ghost use Rattle.merge_cli.specs.Answers.{AsksCheck};
-ghost use Rattle.merge_cli.specs.Check.{CheckAnswers, IsTrueReport, accepted_text, wrong_line_text};
+ghost use Rattle.merge_cli.specs.Check.{CheckAnswers, accepted_text, wrong_line_text};
 ghost use Rattle.merge_cli.specs.Merge.{MergeAnswers, ReportsMerge, ReportsLack, ReportsSpent};
 ghost use Rattle.merge_cli.specs.Merge.{main_vars};
 ghost use Rattle.merge_cli.specs.Commands.{merge_of};
@@ -24,6 +24,7 @@ ghost use Rattle.report_lines.specs.declared.kinds.RefusedKind.{RefusedKind};
 ghost use Rattle.report_lines.specs.Judged.{IsAccepted, IsFirstWrong};
 ghost use Rattle.report_lines.specs.Parts.{Asked};
 ghost use Rattle.report_lines.specs.Places.{end_number};
+ghost use Rattle.report_text.specs.Accepting.{IsBorneOutText};
 
 use crate::commands::{Command, command_of};
 use crate::reading::read_reply;
@@ -183,7 +184,7 @@ pub fn run<S: Source, K: Sink>(
         ↔ IsAccepted bytes kind }
     ensures checked_true { (bytes : List ℕ) → AsksCheck (S.left source.old) words.now bytes
         → result.status ≡ 0 → (kind : Kind) × (result.text.items ≡ accepted_text kind)
-        × IsTrueReport bytes kind }
+        × IsBorneOutText bytes kind }
     ensures refused_report { (bytes : List ℕ) → AsksCheck (S.left source.old) words.now bytes
         → result.status ≢ 4 → result.status ≢ 5 → result.status ≢ 6
         → (line : ℕ) (kind : RefusedKind) → IsFirstWrong bytes line kind

@@ -2,7 +2,7 @@ use Rattle.merge_cli.proofs.Replies.{accepted_reply, wrong_line_reply}
 use Rattle.merge_cli.proofs.checking.check_reply.Goals as goal
 
 pub returns-in-Ok : goal.returns-in-Ok
-returns-in-Ok c = accepted_reply c.args.bytes.now c.in-Ok.kind _ c.says.result c.accepted_has_parts.ensures c.in-Ok.ensures.ok c.line_of_kind.ensures c.says.ensures
+returns-in-Ok c = accepted_reply c.args.bytes.now c.in-Ok.kind _ c.says.result c.in-Ok.ensures.ok c.in-Ok.ensures.borne_out c.line_of_kind.ensures c.says.ensures
 
 pub returns-in-Err-Refused : goal.returns-in-Err-Refused
 returns-in-Err-Refused c =
