@@ -1,6 +1,6 @@
 pub mod Shown
 pub mod Verdicts
-pub mod Named
+pub mod Namings
 pub mod Accepting
 pub mod Shapes
 pub mod Spent

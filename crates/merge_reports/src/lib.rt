@@ -7,4 +7,6 @@ mod outcome;
 mod proving;
 mod reporting;
 
-pub use reporting::report_on;
+pub use naming::named;
+pub use outcome::{Found, Outcome, is_small};
+pub use reporting::{report_of, report_on};

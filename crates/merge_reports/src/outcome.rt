@@ -59,7 +59,7 @@ fn find<D: Counted + Drop, A: Levelled + Drop>(
 }
 
 /// The log's numbers are small enough to be written.
-fn is_small(derivations: &Derivations)
+pub fn is_small(derivations: &Derivations)
     ensures { IsSmall derivations.now }
 {
     let known = derivations.known();

@@ -3,6 +3,8 @@ ghost use Rattle.std.specs.Prelude.{◌≡◌, ◌≤◌, IfOk};
 ghost use Rattle.report_lines.specs.Places.{conflict_limit};
 ghost use Rattle.report_lines.specs.Parts.{HasForm};
 ghost use Rattle.report_lines.specs.Reports.{IsReport, asked_in, parts_in};
+ghost use Rattle.report_lines.specs.Operators.{operator_named};
+ghost use Rattle.merge_reports.specs.Outcomes.{IsOutcome};
 ghost use Rattle.merge_reports.specs.BorneOut.{IsBorneOut, IsTruthful};
 
 use crate::outcome::{Found, Outcome, search_named};
@@ -33,12 +35,37 @@ pub fn report_on(
     ensures truth { IfOk result IsTruthful }
 {
     let outcome = search_named(alloc, distance, aggregator, conflicts, problem)?;
+    Ok(report_of(distance, aggregator, conflicts, outcome))
+}
+
+/// The report of what a search under the named distance and aggregator came to, each of whose questions could
+/// learn `conflicts` steps.
+pub fn report_of(
+    distance: DistanceName,
+    aggregator: AggregatorName,
+    conflicts: u64,
+    outcome: Outcome,
+) -> Report
+    requires some { 1 ≤ conflicts }
+    requires few { conflicts ≤ conflict_limit }
+    requires outcome { IsOutcome (operator_named distance aggregator outcome.problem.atoms) conflicts
+        outcome.problem outcome.derivations outcome.found.answer outcome.found.proofs.items }
+    ensures distance { result.distance ≡ distance }
+    ensures aggregator { result.aggregator ≡ aggregator }
+    ensures conflicts { result.conflicts ≡ conflicts }
+    ensures problem { result.problem ≡ outcome.problem }
+    ensures said { result.answer ≡ outcome.found.answer }
+    ensures whole { IsReport result }
+    ensures form { HasForm (asked_in result) (parts_in result) }
+    ensures answer { IsBorneOut result }
+    ensures truth { IsTruthful result }
+{
     let Outcome {
         problem,
         found: Found { answer, proofs },
         derivations,
     } = outcome;
-    Ok(Report {
+    Report {
         distance,
         aggregator,
         conflicts,
@@ -46,5 +73,5 @@ pub fn report_on(
         answer,
         derivations,
         proofs: Sequence::from_vec(proofs),
-    })
+    }
 }

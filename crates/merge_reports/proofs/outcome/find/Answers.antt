@@ -1,4 +1,4 @@
-use Rattle.merge_reports.proofs.Named.{named_where}
+use Rattle.merge_reports.proofs.Namings.{named_where}
 use Rattle.merge_reports.proofs.outcome.find.Goals as goal
 
 pub merged-requires : goal.merged-requires
