@@ -23,7 +23,14 @@ impl Model for PlannedSink {
 
     ghost Value = { PlannedOut };
 
-    ghost view = { λ s. record { taken = s.sink.taken; room = s.sink.room; piece = s.sink.piece; writes = s.writes; failing = s.failing.items; faults = s.faults } };
+    ghost view = { λ s. record {
+      taken = s.sink.taken;
+      room = s.sink.room;
+      piece = s.sink.piece;
+      writes = s.writes;
+      failing = s.failing.items;
+      faults = s.faults;
+    } };
 }
 
 impl MemorySink {
@@ -37,7 +44,15 @@ impl MemorySink {
         faults: Vec<u64>,
     ) -> Result<PlannedSink, NoMemory>
         requires { 0 < piece }
-        ensures { IfOk result (λ s. s ≡ record { taken = []; room = room; piece = piece; writes = 0; failing = faults.items; faults = 0 }) }
+        ensures { IfOk result
+            (λ s. s ≡ record {
+              taken = [];
+              room = room;
+              piece = piece;
+              writes = 0;
+              failing = faults.items;
+              faults = 0;
+            }) }
     {
         Ok(PlannedSink {
             sink: MemorySink::new(alloc, room, piece)?,
@@ -68,8 +83,11 @@ impl Sink for PlannedSink {
         ensures cause { HasCause self.old.faults self.new.faults result }
 
         // Which write fails, and how much another takes.
-        ensures fails { IsErr result ↔ (FailsNext self.old.failing self.old.writes ⊎ ((0 < length piece.now) × (length self.old.taken ≡ self.old.room))) }
-        ensures takes { IfOk result (λ n. n ≡ min (length piece.now) (min self.old.piece (self.old.room - length self.old.taken))) }
+        ensures fails { IsErr result ↔ (FailsNext self.old.failing self.old.writes ⊎
+            ((0 < length piece.now) × (length self.old.taken ≡ self.old.room))) }
+        ensures takes { IfOk result
+            (λ n. n ≡ min (length piece.now)
+            (min self.old.piece (self.old.room - length self.old.taken))) }
         ensures room { self.new.room ≡ self.old.room }
         ensures piece { self.new.piece ≡ self.old.piece }
         ensures counted { self.new.writes ≡ next_call self.old.writes }

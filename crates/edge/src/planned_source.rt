@@ -24,7 +24,13 @@ impl Model for PlannedSource {
 
     ghost Value = { PlannedIn };
 
-    ghost view = { λ s. record { left = s.source.left; piece = s.source.piece; reads = s.reads; failing = s.failing.items; faults = s.faults } };
+    ghost view = { λ s. record {
+      left = s.source.left;
+      piece = s.source.piece;
+      reads = s.reads;
+      failing = s.failing.items;
+      faults = s.faults;
+    } };
 
     ghost invariant = { λ s. s.source.fails_in ≡ 0 };
 }
@@ -34,7 +40,13 @@ impl MemorySource {
     /// counted from 1, fail and no others.
     pub fn with_faults(bytes: Vec<u8>, piece: usize, faults: Vec<u64>) -> PlannedSource
         requires { 0 < piece }
-        ensures { result ≡ record { left = bytes.items; piece = piece; reads = 0; failing = faults.items; faults = 0 } }
+        ensures { result ≡ record {
+          left = bytes.items;
+          piece = piece;
+          reads = 0;
+          failing = faults.items;
+          faults = 0;
+        } }
     {
         PlannedSource {
             source: MemorySource::new(bytes, piece, 0),
@@ -60,7 +72,8 @@ impl Source for PlannedSource {
 
         // Which read fails, and how much another gives.
         ensures fails { IsErr result ↔ FailsNext self.old.failing self.old.reads }
-        ensures count { IfOk result (λ n. n ≡ min (length self.old.left) (min (length into.old) self.old.piece)) }
+        ensures count { IfOk result
+            (λ n. n ≡ min (length self.old.left) (min (length into.old) self.old.piece)) }
         ensures piece { self.new.piece ≡ self.old.piece }
         ensures counted { self.new.reads ≡ next_call self.old.reads }
         ensures failing { self.new.failing ≡ self.old.failing }
