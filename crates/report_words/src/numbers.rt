@@ -1,5 +1,5 @@
 // Numbers of 1 to 19 digits, and literals.
-ghost use Rattle.std.specs.Prelude.{◌≡◌, ◌≢◌, ℕ, ◌<◌, ◌^◌, IfSome, IfNone, decimal};
+ghost use Rattle.std.specs.Prelude.{◌≡◌, ◌≢◌, ℕ, IfSome, IfNone, decimal};
 ghost use Rattle.report_words.specs.Numbers.{digits_from, number_at, literal_at, literal_word, IsLiteral, HasNumeral, signed};
 ghost use Rattle.std.specs.Option.{option_and_then};
 ghost use Rattle.report_words.specs.declared.numbers.WideLit.{WideLit as Literal};
