@@ -4,6 +4,7 @@ ghost use Rattle.std.specs.Prelude.{IfOk, MatchOption, None, Some, codes, decima
 ghost use Rattle.std.specs.List.{AllByRecursion};
 ghost use Rattle.report_words.specs.Numbers.{HasNumeral, number_at};
 ghost use Rattle.report_words.specs.Words.{words_of};
+ghost use Rattle.formulas.specs.Limits.{valuation_limit};
 ghost use Rattle.formula_text.specs.ValuationWords.{valuation_word};
 ghost use Rattle.report_lines.specs.Items.{subject_words};
 ghost use Rattle.report_lines.specs.LineReading.{bit_at, valuation_at, each_at};
@@ -27,7 +28,7 @@ fn bit_of(byte: u8) -> Option<bool>
 
 #[tactic(auto, unfolding(crate::specs::LineReading::valuation_at))]
 fn spelled(word: &[u8], atoms: u32) -> Option<Valuation>
-    requires { atoms ≤ 64 }
+    requires { atoms ≤ valuation_limit }
     ensures { result ≡ valuation_at atoms word.now }
 {
     if word.len() != atoms as usize {
@@ -43,7 +44,7 @@ fn spelled(word: &[u8], atoms: u32) -> Option<Valuation>
 
 /// The valuation over so many atoms that a word spells; `None` exactly where the word is none.
 pub fn valuation_of(word: &[u8], atoms: u32) -> Option<Valuation>
-    requires { atoms ≤ 64 }
+    requires { atoms ≤ valuation_limit }
     ensures exact { result ≡ valuation_at atoms word.now }
     ensures found { IfSome result (λ v. (word.now ≡ valuation_word v) × (length v ≡ atoms)) }
     ensures none { IfNone result ((v : List Bool) → length v ≡ atoms →
@@ -54,7 +55,7 @@ pub fn valuation_of(word: &[u8], atoms: u32) -> Option<Valuation>
 
 /// The model that a line shows; `None` exactly where the line shows none over so many atoms.
 pub fn model_line(line: &[u8], atoms: u32) -> Option<Valuation>
-    requires { atoms ≤ 64 }
+    requires { atoms ≤ valuation_limit }
     ensures some { IfSome result
         (λ v. (words_of line.now ≡ codes "model" ∷ valuation_word v ∷ []) × (length v ≡ atoms)) }
     ensures none { IfNone result ((v : List Bool) → length v ≡ atoms →
@@ -65,7 +66,7 @@ pub fn model_line(line: &[u8], atoms: u32) -> Option<Valuation>
 
 /// The model that a line shows of a subject; `None` exactly where it shows none over so many atoms.
 pub fn has_model_line(line: &[u8], subject: Subject, atoms: u32) -> Option<Valuation>
-    requires { atoms ≤ 64 }
+    requires { atoms ≤ valuation_limit }
     ensures some { IfSome result
         (λ v. (words_of line.now ≡
         codes "has-model" ∷ (subject_words subject ++ valuation_word v ∷ [])) ×
@@ -109,7 +110,7 @@ fn valuations(
     words: &mut Words<'_>,
     atoms: u32,
 ) -> Result<Option<Vec<Valuation>>, NoMemory>
-    requires { atoms ≤ 64 }
+    requires { atoms ≤ valuation_limit }
     ensures { IfOk result
         (λ found. MatchOption found (each_at (valuation_at atoms) words.old ≡ None)
         (λ v. each_at (valuation_at atoms) words.old ≡ Some v.items)) }
@@ -158,7 +159,7 @@ pub fn nearest_line(
     atoms: u32,
     count: usize,
 ) -> Result<Option<Vec<Valuation>>, NoMemory>
-    requires { atoms ≤ 64 }
+    requires { atoms ≤ valuation_limit }
     ensures { IfOk result (λ found. MatchOption found
         ((ws : List (List Bool)) → length ws ≡ count → AllByRecursion (λ w. length w ≡ atoms) ws →
         words_of line.now ≢ codes "nearest" ∷ map valuation_word ws)
