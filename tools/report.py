@@ -36,6 +36,10 @@ CHECKED = {
     "spent": "the search gave up only after its last question had learned as many steps as it "
     "might, each new; nothing is said of the closest models",
 }
+ANY_MODEL = (
+    "By the drastic distance each model of a formula is at distance 1, but for the closest model "
+    "itself: the nearest model that is shown is any of them."
+)
 CONNECTIVES = {"&": " and ", "|": " or ", "<->": " exactly where "}
 BINARY = ("&", "|", "->", "<->")
 RESERVED = {"and", "or", "not", "if", "then", "exactly", "where"}
@@ -284,6 +288,15 @@ def ties(report):
     if count > 1:
         return "The report shows %d different closest models, all of this measure." % count
     return "The report shows one closest model. Whether others tie with it, it does not say."
+
+
+def gave_up(report):
+    """What a report says of a search that gave up."""
+    return (
+        "A question of the search learned %s, as many as it might, and the search gave up. Which "
+        "models are closest is not known. A greater number after the words of the command lets "
+        "each question learn more." % plural(report.conflicts, "step")
+    )
 
 
 def plural(count, word):
