@@ -1,4 +1,4 @@
-"""What tests/run checks of docs/TUTORIAL.md: each shown output, to the letter.
+"""What tests/run checks of docs/TUTORIAL.md and examples/README.md: each shown output, to the letter.
 
 A block that begins with ```text NAME is a file that the reader saves under this name. In a block
 that begins with ```console each line after `$ ` is a command, and the lines up to the next command
@@ -13,7 +13,7 @@ import tempfile
 HERE = os.path.dirname(os.path.abspath(__file__))
 TOP = os.path.dirname(HERE)
 PROGRAM = os.path.join(TOP, "crates", "hemovulish", "out", "hemovulish")
-TUTORIAL = os.path.join(TOP, "docs", "TUTORIAL.md")
+DOCUMENTS = {"tutorial": "docs/TUTORIAL.md", "stories": "examples/README.md"}
 SECONDS = 60
 
 
@@ -80,7 +80,13 @@ class Folder:
 
 def cases():
     """Each case: its name and what says what is wrong with it."""
-    with open(TUTORIAL, encoding="utf-8") as file:
-        folder = Folder(steps(file.read()))
-    return [("tutorial %02d %s" % (at, command[:60]), lambda at=at: folder.complaint(at))
-            for at, (kind, command, _) in enumerate(folder.wanted) if kind == "command"]
+    found = []
+    for name, path in DOCUMENTS.items():
+        with open(os.path.join(TOP, path), encoding="utf-8") as file:
+            folder = Folder(steps(file.read()))
+        found += [
+            ("%s %02d %s" % (name, at, command[:60]), lambda it=folder, at=at: it.complaint(at))
+            for at, (kind, command, _) in enumerate(folder.wanted)
+            if kind == "command"
+        ]
+    return found
