@@ -144,7 +144,7 @@ def page_numbers(report, tree):
 def counters(report, tree):
     """What differs in the closest models where queries fail."""
     models, vectors = lines_of(report, "model"), lines_of(report, "vector")
-    others = [k for k in range(1, len(models)) if models[k] != models[0]]
+    others = [k for k in range(1, len(models)) if models[k] not in models[:k]]
     found = []
     for section in tree.iter("section"):
         tables = section.findall(".//table")

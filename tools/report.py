@@ -33,8 +33,8 @@ CHECKED = {
     "a closest model that does not",
     "inconsistent": "the formulas that are named have no model, and each other one has the model "
     "that is shown",
-    "spent": "the search gave up only after its last question had learned as many steps as it "
-    "might, each new; nothing is said of the closest models",
+    "spent": "the log is sound, and its last steps, as many as a question might learn, were "
+    "learned, each of them new; nothing is said of the closest models",
 }
 ANY_MODEL = (
     "By the drastic distance each model of a formula is at distance 1, but for the closest model "
@@ -280,6 +280,14 @@ def given_up(report, closest, agent):
     """The literals of an agent's nearest model that the model does not have."""
     chosen, atoms = closest.nearest[agent], report.atoms
     return [("" if chosen[k] == "1" else "not ") + atoms[k] for k in closest.differing(agent)]
+
+
+def seen(report, number):
+    """The query before this one whose no names the same model, 0 where it is the first model, and
+    None where the model is new."""
+    models = [report.first] + report.verdicts[: number - 1]
+    model = report.verdicts[number - 1].model
+    return next((k for k, it in enumerate(models) if it and it.model == model), None)
 
 
 def ties(report):
