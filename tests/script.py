@@ -10,16 +10,17 @@ import time
 HERE = os.path.dirname(os.path.abspath(__file__))
 TOP = os.path.dirname(HERE)
 NOBODY = 65534
-STAND_IN = """#!/bin/sh
+STAND_IN = r"""#!/bin/sh
 echo "$*" >>"$CALLS"
 case $1 in
   all) sleep 0.3; echo "rt: chosen"
-    case $PWD in */report_lines) made="low report_lines" ;; *) made="low report_lines hemovulish" ;; esac
+    made="low report_lines"
+    case $PWD in */hemovulish) made="$made hemovulish" ;; esac
     for it in $made; do echo "== $it"; echo "logic=proved"; done
     echo "== summary"; echo "3 of 3 crates ok" ;;
   run) [ -n "$BROKEN" ] && { echo "no proof of low" >&2; exit 1; }
     mkdir -p out
-    printf '#!/bin/sh\\n[ $# = 0 ] && { echo refused words; exit 2; }\\necho "ran $*"\\n' \\
+    printf '%s\n' '#!/bin/sh' '[ $# = 0 ] && { echo refused words; exit 2; }' 'echo "ran $*"' \
       >out/hemovulish
     chmod +x out/hemovulish; echo "much text" >&2; exec out/hemovulish ;;
 esac
