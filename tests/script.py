@@ -10,14 +10,17 @@ import time
 HERE = os.path.dirname(os.path.abspath(__file__))
 TOP = os.path.dirname(HERE)
 NOBODY = 65534
-STAND_IN = """#!/bin/sh
+STAND_IN = r"""#!/bin/sh
 echo "$*" >>"$CALLS"
 case $1 in
-  all) sleep 0.3; echo "rt: chosen"; for it in low high; do echo "== $it"; echo "logic=proved"; done
-    echo "== summary" ;;
+  all) sleep 0.3; echo "rt: chosen"
+    made="low report_lines"
+    case $PWD in */hemovulish) made="$made hemovulish" ;; esac
+    for it in $made; do echo "== $it"; echo "logic=proved"; done
+    echo "== summary"; echo "3 of 3 crates ok" ;;
   run) [ -n "$BROKEN" ] && { echo "no proof of low" >&2; exit 1; }
     mkdir -p out
-    printf '#!/bin/sh\\n[ $# = 0 ] && { echo refused words; exit 2; }\\necho "ran $*"\\n' \\
+    printf '%s\n' '#!/bin/sh' '[ $# = 0 ] && { echo refused words; exit 2; }' 'echo "ran $*"' \
       >out/hemovulish
     chmod +x out/hemovulish; echo "much text" >&2; exec out/hemovulish ;;
 esac
@@ -42,7 +45,9 @@ class Checkout:
         os.mkdir(self.bin)
         shutil.copy(os.path.join(TOP, "hemovulish"), self.top)
         shutil.copy(os.path.join(TOP, ".ci", "sources"), os.path.join(self.top, ".ci"))
-        self.write("crates.txt", "low:\nhigh: low\n")
+        os.mkdir(os.path.join(self.top, "crates", "report_lines"))
+        self.write("crates.txt", "low: std # the lowest\nreport_lines: low\nother: low\n"
+                   "hemovulish: report_lines low std\n")
         self.write("crates/hemovulish/src/main.rt", "first\n")
         executable(os.path.join(self.bin, "rt"), STAND_IN)
 
@@ -85,8 +90,9 @@ def first_call(checkout):
     status, output, said = checkout.run("check", "x")
     counted = [it for it in said if re.search(r"\d of \d crates done", it)]
     wrong = differ("a first call", (status, output), (0, "ran check x\n"))
-    wrong = wrong or differ("counts", counted, ["hemovulish: 1 of 2 crates done: low",
-                                                "hemovulish: 2 of 2 crates done: high"])
+    names = ("low", "report_lines", "hemovulish")
+    wrong = wrong or differ("counts", counted, [
+        "hemovulish: %d of 3 crates done: %s" % it for it in enumerate(names, 1)])
     wrong = wrong or differ("a second call", checkout.run("check"), (0, "ran check\n", []))
     wrong = wrong or differ("builds", checkout.built(), 1)
     checkout.write("crates/hemovulish/src/main.rt", "second\n")

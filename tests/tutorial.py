@@ -1,4 +1,4 @@
-"""What tests/run checks of docs/TUTORIAL.md and examples/README.md: each shown output, to the letter.
+"""What tests/run checks of docs/TUTORIAL.md and examples/README.md: the outputs, to the letter.
 
 A block that begins with ```text NAME is a file that the reader saves under this name. In a block
 that begins with ```console each line after `$ ` is a command, and the lines up to the next command
