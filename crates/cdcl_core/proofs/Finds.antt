@@ -1,5 +1,5 @@
 -- Lemmas on answers.
-use Rattle.std.proofs.Common.{◌≡◌, ◌≢◌, ℕ, ◌+◌, ◌-◌, ◌<◌, ◌≤◌, Bool, true, false, not, List, [], ◌∷◌, ◌++◌, length, refl, ap, sym, ◌∙◌, arith, cond, eqb, inl, inr, subst, zero, suc, Some, None, Option, get_or, map, append_assoc, length-append}
+use Rattle.std.proofs.Common.{◌≡◌, ◌≢◌, ℕ, ◌+◌, ◌-◌, ◌<◌, ◌≤◌, Bool, true, false, not, List, [], ◌∷◌, ◌++◌, length, refl, ap, sym, ◌∙◌, arith, cond, eqb, inl, inr, subst, suc, Some, None, Option, get_or, map, append_assoc, length-append}
 use Rattle.std.specs.Prelude.{All, Contains, AllPairs, ◌⊎◌, slice_get, unwrap_or}
 use Rattle.std.proofs.lemmas.Bool.{cases_lt, cases_eq, cases_Bool}
 use Rattle.std.proofs.Math.Bool.{beq}
@@ -12,12 +12,12 @@ use Rattle.watch_lists.specs.Trace.{Trace, Attached, value_of, entry_of, under, 
 use Rattle.clause_store.specs.Clauses.{clause_at}
 use Rattle.derivation_log.specs.Logs.{Log, known_of, is_learned}
 use Rattle.derivation_log.specs.declared.step.Step.{Step}
-use Rattle.solver_laws.specs.Ready.{IsFalseIn, IsReason, IsJustified, DecidesOnly, IsBarred, IsLog}
+use Rattle.solver_laws.specs.Ready.{IsFalseIn, IsReason, IsJustified, DecidesOnly, IsBarred, AreAttached, IsLog}
 use Rattle.std.specs.List.{AllByRecursion}
 use Rattle.watch_lists.proofs.Parts.{room_cons}
 use Rattle.solver_laws.proofs.Rooms.{room_false, each_map, same_lit-is, contains_has}
 use Rattle.solver_laws.proofs.Steps.{drop_false}
-use Rattle.solver_laws.proofs.Turns.{all_map}
+use Rattle.solver_laws.proofs.Turns.{attached_all}
 use Rattle.watch_lists.proofs.Traces.{entry_of-var}
 use Rattle.watch_lists.proofs.Scans.{contains_all}
 use Rattle.clause_store.specs.Truth.{clause_true, lit_true, values_of, AreTrue}
@@ -80,19 +80,16 @@ clause_found t values (l ∷ ls) h full r two =
       | inr v ↦ or_right (lit_true (values_of values) l) (clause_true (values_of values) ls) (clause_found t values ls h full r.1 (omega (arith, room_cons t.entries l ls, ap room_in v)))
     ]
 
-all_front : (P : List Lit → Type 0) (xs ys : List (List Lit)) → All P (xs ++ ys) → All P xs
-all_front P [] ys h k d lt = absurd (omega arith)
-all_front P (x ∷ xs) ys h zero d lt = h 0 d (omega arith)
-all_front P (x ∷ xs) ys h (suc k) d lt = all_front P xs ys (λ j e l. h (suc j) e (omega arith)) k d (omega arith)
-
-pub main_found : (t : Trace) (values : List Bool) (main learned : List (List Lit)) (w : List Attached) → HasValues t values → ((v : ℕ) → 1 ≤ v → v ≤ t.vars → value_of t.entries (record { var = v; positive = false }) ≢ None) → AreInRange t.vars main → map (λ (a : Attached). a.clause) w ≡ main ++ learned → IsComplete w t.entries → AreTrue main (values_of values)
-main_found t values main learned w h full r e c =
-    each_satisfies (values_of values) main (each_of_index (λ (x : List Lit). clause_true (values_of values) x ≡ true) main (λ k d lt.
-    clause_found t values (get_or main k d) h full (each_index (InRange t.vars) main r k d lt) (all_front (λ (x : List Lit). 2 ≤ room_of t.entries x) main learned (subst (All (λ (x : List Lit). 2 ≤ room_of t.entries x)) e (all_map (λ (x : List Lit). 2 ≤ room_of t.entries x) w c)) k d lt)))
-
 each_front : (P : List Lit → Type 0) (xs ys : List (List Lit)) → AllByRecursion P (xs ++ ys) → AllByRecursion P xs
 each_front P [] ys h = tt
 each_front P (x ∷ xs) ys h = (h.0, each_front P xs ys h.1)
+
+pub main_found : (t : Trace) (values : List Bool) (main learned : List (List Lit)) (w : List Attached) → HasValues t values → ((v : ℕ) → 1 ≤ v → v ≤ t.vars → value_of t.entries (record { var = v; positive = false }) ≢ None) → AreInRange t.vars main → AreAttached w (main ++ learned) → IsComplete w t.entries → AreTrue main (values_of values)
+main_found t values main learned w h full r e c =
+    let P : List Lit → Type 0 = λ x. 2 ≤ room_of t.entries x in
+    let two : AllByRecursion P main = each_front P main learned (attached_all P w (main ++ learned) c e) in
+    each_satisfies (values_of values) main (each_of_index (λ (x : List Lit). clause_true (values_of values) x ≡ true) main (λ k d lt.
+    clause_found t values (get_or main k d) h full (each_index (InRange t.vars) main r k d lt) (each_index P main two k d lt)))
 
 pub main_range : (g : Log) (vars : ℕ) → AreInRange vars (known_of g) → AreInRange vars g.main
 main_range g vars h = each_front (InRange vars) g.main (map (λ (s : Step). s.clause) g.steps) h

@@ -171,6 +171,7 @@ pub fn refute<P: Propagator>(
         marks.new.kept.items) }
     ensures ok { IfOk result (λ number. (number ≡ length (known_of log.old)) ×
         IsClaimed log.old log.new assumptions.now) }
+    ensures within { IfOk result (λ number. number < length (known_of log.new)) }
     ensures err { OnErr result (log.new ≡ log.old) }
     ensures ready { IsReady log.new (P.attached propagator.now) (P.followed propagator.now)
         (P.vars propagator.now) trail.now }
@@ -191,6 +192,27 @@ pub fn refute<P: Propagator>(
         chain: made.chain,
     })?;
     Ok(number)
+}
+
+/// Goes back to no level, and attaches a claimed step, so that later questions use it. Where memory
+/// for that is wanting, the step stands in the log all the same.
+pub fn close<P: Propagator>(
+    log: &Derivations,
+    trail: &mut Trail,
+    propagator: &mut P,
+    order: &mut Order,
+    number: u64,
+)
+    requires ready { IsReady log.now (P.attached propagator.old) (P.followed propagator.old)
+        (P.vars propagator.old) trail.old }
+    requires within { number < length (known_of log.now) }
+    ensures ready { IsReady log.now (P.attached propagator.new) (P.followed propagator.new)
+        (P.vars propagator.new) trail.new }
+    ensures rest { trail.new.level ≡ 0 }
+    ensures vars { trail.new.vars ≡ trail.old.vars }
+{
+    retreat(log, trail, propagator, order, 0);
+    let _ = propagator.attach(log.known(), number, trail);
 }
 
 /// Where deciding and propagating came to.

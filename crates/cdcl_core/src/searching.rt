@@ -1,5 +1,5 @@
 // The solver: decide, propagate, learn.
-ghost use Rattle.std.specs.Prelude.{◌≡◌, ◌≢◌, false, length, IfOk, OnOk, OnErr, Some, Contains};
+ghost use Rattle.std.specs.Prelude.{◌≡◌, ◌≢◌, ◌<◌, false, length, IfOk, OnOk, OnErr, Some, Contains};
 ghost use Rattle.std.specs.Prelude.{AllPairs};
 ghost use Rattle.clause_store.specs.Lits.{InRange};
 ghost use Rattle.derivation_log.specs.Logs.{known_of};
@@ -10,7 +10,7 @@ ghost use Rattle.cdcl_core.specs.Replies.{IsAnswered, IsBrokenOff, IsLonger, IsC
 
 use crate::analysis::learn;
 use crate::choice::values;
-use crate::engine::{Turn, descend, keep, refute, retreat};
+use crate::engine::{Turn, close, descend, keep, refute, retreat};
 use crate::marks::Marks;
 use crate::order::Order;
 use crate::reply::Reply;
@@ -42,6 +42,7 @@ fn refute_contrary<P: Propagator>(
         marks.new.kept.items) }
     ensures ok { IfOk result (λ number. (number ≡ length (known_of log.old)) ×
         IsClaimed log.old log.new assumptions.now) }
+    ensures within { IfOk result (λ number. number < length (known_of log.new)) }
     ensures err { OnErr result (log.new ≡ log.old) }
     ensures ready { IsReady log.new (P.attached propagator.now) (P.followed propagator.now)
         (P.vars propagator.now) trail.now }
@@ -92,7 +93,7 @@ pub fn search<P: Propagator>(
             Turn::Conflict(number) => {
                 if trail.level() <= opened {
                     let step = refute(alloc, log, trail, propagator, marks, number, assumptions)?;
-                    retreat(log, trail, propagator, order, 0);
+                    close(log, trail, propagator, order, step);
                     return Ok(Reply::Refuted(step));
                 }
                 let lesson = learn(alloc, log.known(), trail, propagator, marks, number)?;
@@ -102,7 +103,7 @@ pub fn search<P: Propagator>(
             }
             Turn::Contrary(lit) => {
                 let step = refute_contrary(alloc, log, trail, propagator, marks, lit, assumptions)?;
-                retreat(log, trail, propagator, order, 0);
+                close(log, trail, propagator, order, step);
                 return Ok(Reply::Refuted(step));
             }
             Turn::Full => {

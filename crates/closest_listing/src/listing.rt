@@ -70,11 +70,14 @@ impl<D: Counted + Drop, A: Levelled + Drop> Listing<D, A> {
     /// The least closest valuation above the one that was given last, or above the place of the
     /// beginning, or of all; `None` exactly where there is none. `GaveUp` where the last question
     /// spent its budget, with the number of its first step; `NoMemory` for want of memory, and from
-    /// then on always. A stop leaves the place as it was.
+    /// then on always, with nothing changed. A stop leaves the place as it was, and the log with
+    /// steps that follow.
     pub fn next(&mut self) -> Result<Option<Valuation>, SearchStop>
         ensures subject { self.new.subject ≡ self.old.subject }
         ensures best { self.new.best ≡ self.old.best }
         ensures longer { IsLonger self.old.engine.log self.new.engine.log }
+        ensures sound { IsLog self.new.engine.log }
+        ensures over { IsOver (⟦<Subject<D, A> as Questions>⟧.setting self.old.subject) self.new.engine.log }
         ensures answer { MatchResult result
             (λ next. IsNextListed
             (⟦<Subject<D, A> as Questions>⟧.setting self.old.subject) self.old.after next)
@@ -83,8 +86,10 @@ impl<D: Counted + Drop, A: Levelled + Drop> Listing<D, A> {
         ensures place { self.new.after ≡ place_after self.old.after result }
         ensures failed { IsTrue self.new.failed ↔ (result ≡ Err SearchStop.NoMemory) }
         ensures fails_on { IsTrue self.old.failed → result ≡ Err SearchStop.NoMemory }
+        ensures stays { IsTrue self.old.failed → self.new.engine ≡ self.old.engine }
     {
         if self.failed {
+            self.note(true);
             return Err(SearchStop::NoMemory);
         }
         let atoms = self.subject.problem.atoms.len();
@@ -96,9 +101,22 @@ impl<D: Counted + Drop, A: Levelled + Drop> Listing<D, A> {
             self.after,
             atoms,
         );
-        self.failed = is_wanting(&outcome);
+        self.note(is_wanting(&outcome));
         self.after = place_of(self.after, &outcome);
         outcome
+    }
+
+    /// Notes whether memory was wanting. Each step of the log follows then, too.
+    fn note(&mut self, wanting: bool)
+        ensures subject { self.new.subject ≡ self.old.subject }
+        ensures engine { self.new.engine ≡ self.old.engine }
+        ensures best { self.new.best ≡ self.old.best }
+        ensures place { self.new.after ≡ self.old.after }
+        ensures failed { self.new.failed ≡ wanting }
+        ensures sound { IsLog self.new.engine.log }
+    {
+        let _ = self.engine.derivations();
+        self.failed = wanting;
     }
 
     /// The main clauses and the steps so far, each of which follows.

@@ -9,7 +9,7 @@ use Rattle.clause_store.proofs.Lits.{rank_lit}
 use Rattle.clause_store.proofs.Truths.{or_cases, or_left, or_right}
 use Rattle.watch_lists.specs.declared.entry.Entry.{Entry}
 use Rattle.watch_lists.specs.Trace.{value_of, entry_of, under, room_in, room_of, upto, AreApart, IsStacked, Place, places_of, Extends}
-use Rattle.watch_lists.proofs.Parts.{room_cons, upto_whole, upto_upto, entry_upto, level_le}
+use Rattle.watch_lists.proofs.Parts.{room_cons, upto_whole, entry_upto, level_le}
 use Rattle.solver_laws.specs.Ready.{IsFalseIn, Tops}
 use Rattle.std.specs.List.{AllByRecursion}
 

@@ -13,7 +13,7 @@ use Rattle.derivation_log.specs.declared.step.Link.{Link}
 use Rattle.derivation_log.proofs.Steps.{comes_more}
 use Rattle.solver_laws.specs.Ready.{IsFalseIn, IsReason, IsJustified, Tops, IsLesson}
 use Rattle.std.specs.List.{AllByRecursion}
-use Rattle.solver_laws.proofs.Rooms.{each_map, each_resolvent, each_lacks, false_before, room_false, room_once, room_joined, tops_from, tops_lacks, decision_room, room_zero_each}
+use Rattle.solver_laws.proofs.Rooms.{each_resolvent, each_lacks, false_before, room_false, room_once, room_joined, tops_from, tops_lacks, decision_room, room_zero_each}
 
 -- what a reason of the newest entry is
 pub record Reason (watched : List Attached) (known : List (List Lit)) (es : List Entry) (e : Entry) (n : ℕ) (c : List Lit) : Type 0 where

@@ -2,7 +2,7 @@
 use Rattle.std.proofs.Common.{◌≡◌, ℕ, ◌+◌, ◌-◌, ◌<◌, ◌≤◌, true, false, List, [], ◌∷◌, ◌++◌, length, refl, ap, sym, ◌∙◌, arith, cond, inl, inr, subst, zero, suc, Some, None, Option, map, get_or, append_assoc, length-append}
 use Rattle.std.specs.Prelude.{nat_lt, nat_le, All, Contains, slice_get}
 use Rattle.std.proofs.lemmas.Bool.{cases_lt, false≢true}
-use Rattle.std.proofs.lemmas.List.{append_cancel_right}
+use Rattle.std.proofs.lemmas.List.{append_cancel_right, get_or_default}
 use Rattle.std.proofs.lemmas.List.Elements.{All-push}
 use Rattle.clause_store.specs.declared.lit.Lit.{Lit}
 use Rattle.clause_store.specs.Lits.{without, Ascends, has, Includes}
@@ -11,12 +11,13 @@ use Rattle.watch_lists.specs.Trace.{Trace, Attached, value_of, room_in, room_of,
 use Rattle.derivation_log.specs.Logs.{Log, known_of, learned_of, Follows, is_learned}
 use Rattle.derivation_log.specs.declared.step.Step.{Step}
 use Rattle.derivation_log.proofs.Steps.{sound_push, new_push, learned_push, known_front}
-use Rattle.solver_laws.specs.Ready.{IsFalseIn, IsReason, IsJustified, DecidesOnly, IsReady, IsLog, AllFit}
+use Rattle.solver_laws.specs.Ready.{IsFalseIn, IsReason, IsJustified, DecidesOnly, AreAttached, IsReady, IsLog, AllFit}
 use Rattle.std.specs.List.{AllByRecursion}
 use Rattle.solver_laws.specs.Digits.{IsFit}
 use Rattle.watch_lists.proofs.Parts.{upto_whole, upto_upto}
 use Rattle.solver_laws.proofs.Rooms.{room_false, room_without, contains_has, room_le, upto_extends}
-use Rattle.clause_store.proofs.Each.{each_at, each_of_index}
+use Rattle.clause_store.proofs.Each.{each_append, each_at, each_of_index}
+use Rattle.watch_lists.proofs.Scans.{contains_all}
 use Rattle.clause_store.proofs.Numbered.{get_front, get_seam}
 
 implied_reason : (es : List Entry) (c : List Lit) (l : Lit) → Implies es c l → (has l c ≡ true) × AllByRecursion (IsFalseIn es) (without l c)
@@ -163,7 +164,7 @@ pub ready_claimed : (g : Log) (w : List Attached) (f : List Place) (n : ℕ) (t 
 ready_claimed g w f n t s r u fl =
     record {
       log = log_more g s r.log fl (λ e. absurd (false≢true (sym u ∙ e))) (λ e. absurd (false≢true (sym u ∙ e)));
-      attached = r.attached ∙ ap (λ (zs : List (List Lit)). g.main ++ zs) (sym (learned_same g.steps s u));
+      attached = subst (λ (zs : List (List Lit)). AreAttached w (g.main ++ zs)) (sym (learned_same g.steps s u)) r.attached;
       stand = stand_more g w s r.stand;
       vars = r.vars;
       trail_vars = r.trail_vars;
@@ -178,24 +179,44 @@ all_map P [] h k d lt = absurd (omega arith)
 all_map P (a ∷ w) h zero d lt = h 0 a (omega arith)
 all_map P (a ∷ w) h (suc k) d lt = all_map P w (λ j e l. h (suc j) e (omega arith)) k d (omega arith)
 
+pub attached_all : (P : List Lit → Type 0) (w : List Attached) (cs : List (List Lit)) → All (λ (a : Attached). P a.clause) w → AreAttached w cs → AllByRecursion P cs
+attached_all P w [] h a = tt
+attached_all P w (c ∷ cs) h a = (contains_all P (map (λ (x : Attached). x.clause) w) c (all_map P w h) a.0, attached_all P w cs h a.1)
+
 -- no clause that left two open is in one that leaves one open
 pub is_new : (g : Log) (w : List Attached) (f : List Place) (n : ℕ) (t : Trace) (low : List Entry) (c : List Lit) → IsReady g w f n t → IsComplete w low → AllByRecursion Ascends (known_of g) → room_of low c ≡ 1 → AllByRecursion (λ d. Includes c d → ⊥) (g.main ++ learned_of g.steps)
 is_new g w f n t low c r comp asc one =
-    subst (AllByRecursion (λ d. Includes c d → ⊥)) r.attached
-    (each_of_index (λ d. Includes c d → ⊥) (map (λ (a : Attached). a.clause) w) (all_map (λ d. Includes c d → ⊥) w (λ k d lt i. (let a : Ascends (get_or w k d).clause = each_at Ascends (known_of g) (get_or w k d).number (get_or w k d).clause asc (r.stand k d lt) in
-    omega (arith, room_le low (get_or w k d).clause c a i, one, comp k d lt)))))
+    attached_all (λ d. Includes c d → ⊥) w (g.main ++ learned_of g.steps) (λ k d lt i. (let a : Ascends (get_or w k d).clause = each_at Ascends (known_of g) (get_or w k d).number (get_or w k d).clause asc (r.stand k d lt) in
+    omega (arith, room_le low (get_or w k d).clause c a i, one, comp k d lt))) r.attached
 
 pub attached_push : (w : List Attached) (a : Attached) → map (λ (x : Attached). x.clause) (w ++ a ∷ []) ≡ map (λ (x : Attached). x.clause) w ++ a.clause ∷ []
 attached_push [] a = refl
 attached_push (x ∷ w) a = ap (λ (zs : List (List Lit)). x.clause ∷ zs) (attached_push w a)
 
-contains_more : (w v : List Attached) (a : Attached) → Contains w a → Contains (w ++ v) a
+contains_more : {A : Type 0} (w v : List A) (a : A) → Contains w a → Contains (w ++ v) a
 contains_more [] v a h = absurd (omega (arith, h.1))
 contains_more (x ∷ w) v a h = go h.0 h.1 h.2 (λ i lt e. contains_more w v a (i, lt, e))
   where
     go : (i : ℕ) → i < length (x ∷ w) → get_or (x ∷ w) i a ≡ a → ((j : ℕ) → j < length w → get_or w j a ≡ a → Contains (w ++ v) a) → Contains ((x ∷ w) ++ v) a
     go zero lt e k = (0, omega arith, e)
     go (suc i) lt e k = let r = k i (omega arith) e in (suc r.0, omega (arith, r.1), r.2)
+
+pub contains_last : {A : Type 0} (xs : List A) (x : A) → Contains (xs ++ x ∷ []) x
+contains_last [] x = (0, omega arith, refl)
+contains_last (y ∷ ys) x = let r = contains_last ys x in (suc r.0, omega (arith, r.1), r.2)
+
+-- clauses that are attached stay so when one more is
+attached_more : (w : List Attached) (a : Attached) (cs : List (List Lit)) → AreAttached w cs → AreAttached (w ++ a ∷ []) cs
+attached_more w a [] h = tt
+attached_more w a (c ∷ cs) h =
+    (subst (λ (zs : List (List Lit)). Contains zs c) (sym (attached_push w a)) (contains_more (map (λ (x : Attached). x.clause) w) (a.clause ∷ []) c h.0), attached_more w a cs h.1)
+
+attached_last : (w : List Attached) (a : Attached) → AreAttached (w ++ a ∷ []) (a.clause ∷ [])
+attached_last w a = (subst (λ (zs : List (List Lit)). Contains zs a.clause) (sym (attached_push w a)) (contains_last (map (λ (x : Attached). x.clause) w) a.clause), tt)
+
+-- the main clauses, at the beginning
+pub attached_main : (w : List Attached) (cs : List (List Lit)) → map (λ (a : Attached). a.clause) w ≡ cs → AreAttached w cs
+attached_main w cs e = each_of_index (λ (c : List Lit). Contains (map (λ (a : Attached). a.clause) w) c) cs (subst (λ (zs : List (List Lit)). All (λ (c : List Lit). Contains zs c) cs) (sym e) (λ k d lt. (k, lt, get_or_default cs k (get_or cs k d) d lt)))
 
 reason_more : (w v : List Attached) (es : List Entry) (l : Lit) (o : Option ℕ) → IsReason w es l o → IsReason (w ++ v) es l o
 reason_more w v es l None j = tt
@@ -212,13 +233,28 @@ ready_learned g w f n t s r u lg room =
     let g' : Log = record g { steps = g.steps ++ s ∷ [] } in
     record {
       log = lg;
-      attached = attached_push w a ∙ ap (λ (zs : List (List Lit)). zs ++ s.clause ∷ []) r.attached ∙ append_assoc g.main (learned_of g.steps) (s.clause ∷ []) ∙ ap (λ (zs : List (List Lit)). g.main ++ zs) (sym (learned_push g.steps s u));
+      attached = subst (AreAttached (w ++ a ∷ [])) (append_assoc g.main (learned_of g.steps) (s.clause ∷ []) ∙ ap (λ (zs : List (List Lit)). g.main ++ zs) (sym (learned_push g.steps s u)))
+          (each_append (λ (c : List Lit). Contains (map (λ (x : Attached). x.clause) (w ++ a ∷ [])) c) (g.main ++ learned_of g.steps) (s.clause ∷ []) (attached_more w a (g.main ++ learned_of g.steps) r.attached) (attached_last w a));
       stand = All-push (λ (x : Attached). slice_get (known_of g') x.number ≡ Some x.clause) w a (stand_more g w s r.stand) (push_get g s);
       vars = r.vars;
       trail_vars = r.trail_vars;
       justified = justified_more w (a ∷ []) t.entries r.justified;
       followed = r.followed;
       below = λ k lt. All-push (λ (x : Attached). 2 ≤ room_of (upto k t.entries) x.clause) w a (r.below k lt) (room k lt);
+    }
+
+-- one more known clause is attached where there are no decisions
+pub ready_watched : (g : Log) (w w' : List Attached) (f : List Place) (n : ℕ) (t : Trace) (a : Attached) → IsReady g w f n t → t.level ≡ 0 → StandIn (known_of g) w' → w' ≡ w ++ a ∷ [] → IsReady g w' f n t
+ready_watched g w w' f n t a r z st e =
+    record {
+      log = r.log;
+      attached = subst (λ (v : List Attached). AreAttached v (g.main ++ learned_of g.steps)) (sym e) (attached_more w a (g.main ++ learned_of g.steps) r.attached);
+      stand = st;
+      vars = r.vars;
+      trail_vars = r.trail_vars;
+      justified = subst (λ (v : List Attached). IsJustified v t.entries) (sym e) (justified_more w (a ∷ []) t.entries r.justified);
+      followed = r.followed;
+      below = λ k lt. absurd (omega (arith, z));
     }
 
 -- decisions

@@ -38,10 +38,14 @@ pub record IsLog (log : Log) : Type 0 where
   pub new : IsNew log.main log.steps
   pub fit : AllFit log.vars log.steps
 
--- what holds between any two steps of the solver
+-- each of these clauses is attached
+abbrev pub AreAttached : List Attached → List (List Lit) → Type 0
+AreAttached attached cs = AllByRecursion (λ c. Contains (map (λ a. a.clause) attached) c) cs
+
+-- what holds between any two steps of the solver; claimed steps may be attached, too
 pub record IsReady (g : Log) (watched : List Attached) (done : List Place) (count : ℕ) (t : Trace) : Type 0 where
   pub log : IsLog g
-  pub attached : map (λ a. a.clause) watched ≡ g.main ++ learned_of g.steps
+  pub attached : AreAttached watched (g.main ++ learned_of g.steps)
   pub stand : StandIn (known_of g) watched
   pub vars : g.vars ≡ count
   pub trail_vars : t.vars ≡ count

@@ -1,9 +1,10 @@
-use Rattle.std.proofs.Common.{rules, arith, ◌≡◌, ◌-◌, ℕ, List, sym, ◌∙◌, subst, ap, ◌++◌, refl, map}
+use Rattle.std.proofs.Common.{rules, arith, ◌≡◌, ◌-◌, ℕ, List, sym, ◌∙◌, subst, ap, ◌++◌, refl}
 use Rattle.clause_store.specs.declared.lit.Lit.{Lit}
 use Rattle.clause_store.specs.Clauses.{Clauses}
 use Rattle.clause_store.specs.Lits.{InRange, AreInRange}
 use Rattle.derivation_log.specs.Logs.{known_of, learned_of}
 use Rattle.watch_lists.specs.Trace.{Trace, Attached, IsStacked}
+use Rattle.solver_laws.specs.Ready.{AreAttached}
 use Rattle.cdcl_core.specs.Marked.{AreClear}
 use Rattle.cdcl_core.specs.declared.engine.Turn.{Turn}
 use Rattle.cdcl_core.specs.Asking.{IsTurn}
@@ -48,7 +49,7 @@ returns-in-Full-clause-answered g c =
     let kv : c.known.result.now.vars ≡ t.vars = ap (λ (x : Clauses). x.vars) c.known.ensures ∙ lv in
     let r1 = subst (λ (n : ℕ). AreInRange n c.known.result.now.list) kv c.len-begin.ensures.whole.in_range in
     let r2 = subst (AreInRange t.vars) k r1 in
-    let at : map (λ (a : Attached). a.clause) w ≡ c.args.log.now.main ++ learned_of c.loop-turn.log.steps = c.descend-opened.ensures.ready.attached ∙ ap (λ (m : List (List Lit)). m ++ learned_of c.loop-turn.log.steps) c.loop-turn.invariant.grown.main in (
+    let at : AreAttached w (c.args.log.now.main ++ learned_of c.loop-turn.log.steps) = subst (λ (m : List (List Lit)). AreAttached w (m ++ learned_of c.loop-turn.log.steps)) c.loop-turn.invariant.grown.main c.descend-opened.ensures.ready.attached in (
       c.loop-turn.turn,
       omega (arith, c.loop-turn-test.true),
       c.loop-turn.invariant.grown,

@@ -12,6 +12,7 @@ use Rattle.derivation_log.proofs.Sound.{log_refutes}
 use Rattle.derivation_log.specs.declared.step.Step.{Step}
 use Rattle.solver_laws.specs.Ready.{IsLog}
 use Rattle.solver_laws.proofs.Few.{few_learned, apart}
+use Rattle.solver_laws.proofs.Turns.{contains_last}
 use Rattle.cdcl_core.specs.Replies.{IsLonger, AllLearned, IsDecided, IsJust}
 use Rattle.cdcl_core.specs.declared.reply.Reply.{Reply}
 use Rattle.cdcl_core.specs.declared.reply.Reply.TheVariants.{Found, Refuted, GaveUp}
@@ -64,10 +65,6 @@ returns-clause-distinct g c = apart c.search.new.log.main c.search.new.log.steps
 
 pub returns-clause-few : goal.returns-clause-few
 returns-clause-few g c = few_learned c.search.new.log c.search.ensures.log
-
-contains_last : (cs : List (List Lit)) (c : List Lit) → Contains (cs ++ c ∷ []) c
-contains_last [] c = (0, omega arith, refl)
-contains_last (x ∷ xs) c = let r = contains_last xs c in (suc r.0, omega (arith, r.1), r.2)
 
 just : (old new : Log) (asked : List Lit) (budget : ℕ) (r : Reply) → IsSound new.main new.steps → IsAnswered old new asked budget r → IsJust old.main asked r
 just old new asked budget (Found values) l a = tt
