@@ -9,6 +9,7 @@ ghost use Rattle.merge_encoding.specs.MainDues.{due_for};
 ghost use Rattle.merge_model.specs.Answers.{profile_of};
 ghost use Rattle.merge_model.specs.Merging.{HasModel};
 ghost use Rattle.distance_search.specs.Setting.{setting_of, IsOver};
+ghost use Rattle.distance_search.specs.AtHand.{AreAtHand};
 ghost use Rattle.distance_search.specs.Heard.{IsHalted};
 ghost use Rattle.distance_search.specs.Results.{IsConsistent, IsBestFor, IsBest, IsAway, IsJudged, IsConsistency, IsWith};
 
@@ -17,7 +18,7 @@ use crate::asking::Questions;
 use crate::engine::Engine;
 use crate::reply::SearchStop;
 use crate::subject::Subject;
-use crate::{closest, distances, naming};
+use crate::{closest, distances, naming, pool};
 use agent_copies::Counted;
 use aggregators::Levelled;
 use cdcl_core::Solver;
@@ -38,12 +39,17 @@ use std::alloc::Global;
 pub struct Search<D: Counted + Drop, A: Levelled + Drop> {
     subject: Subject<D, A>,
     engine: Engine,
+    pool: Vec<Away>,
     failed: bool,
     alloc: Global,
     ghost over: { IsOver (setting_of
         (D.dist subject.distance) (D.most subject.distance) (D.due subject.distance)
         (A.rank subject.aggregator) (A.levels_of subject.aggregator) (A.levels_due subject.aggregator)
         subject.problem) engine.log },
+    ghost at_hand: { AreAtHand (setting_of
+        (D.dist subject.distance) (D.most subject.distance) (D.due subject.distance)
+        (A.rank subject.aggregator) (A.levels_of subject.aggregator) (A.levels_due subject.aggregator)
+        subject.problem) engine.log pool.items },
 }
 
 impl<D: Counted + Drop, A: Levelled + Drop> Search<D, A> {
@@ -76,6 +82,7 @@ impl<D: Counted + Drop, A: Levelled + Drop> Search<D, A> {
         Ok(Search {
             subject,
             engine,
+            pool: Vec::new(alloc),
             failed: false,
             alloc,
         })
@@ -140,7 +147,7 @@ impl<D: Counted + Drop, A: Levelled + Drop> Search<D, A> {
         if self.failed {
             return Err(SearchStop::NoMemory);
         }
-        let outcome = closest::best(self.alloc, &self.subject, &mut self.engine);
+        let outcome = pool::best(self.alloc, &self.subject, &mut self.engine, &mut self.pool);
         self.failed = is_wanting(&outcome);
         outcome
     }
@@ -185,7 +192,14 @@ impl<D: Counted + Drop, A: Levelled + Drop> Search<D, A> {
         if self.failed {
             return Err(SearchStop::NoMemory);
         }
-        let outcome = closest::entails(self.alloc, &self.subject, &mut self.engine, best, ask);
+        let outcome = pool::entails(
+            self.alloc,
+            &self.subject,
+            &mut self.engine,
+            &mut self.pool,
+            best,
+            ask,
+        );
         self.failed = is_wanting(&outcome);
         outcome
     }
@@ -231,6 +245,7 @@ impl<D: Counted + Drop, A: Levelled + Drop> Search<D, A> {
         let Search {
             subject,
             engine,
+            pool: _,
             failed,
             alloc: _,
         } = self;
@@ -250,6 +265,7 @@ impl<D: Counted + Drop, A: Levelled + Drop> Search<D, A> {
         let Search {
             subject,
             engine,
+            pool: _,
             failed: _,
             alloc: _,
         } = self;
