@@ -10,3 +10,5 @@ pub mod Ready
 pub mod Lowering
 pub mod Exact
 pub mod Verdicts
+pub mod Kept
+pub mod Known

@@ -1,5 +1,5 @@
 -- Making the levels least.
-use Rattle.std.proofs.Common.{◌≡◌, ℕ, zero, suc, ◌+◌, ◌<◌, ◌≤◌, ◌⊎◌, inl, inr, Bool, List, [], ◌∷◌, ◌++◌, length, take, map, add-one, Option, Some, None, refl, ap, sym, ◌∙◌, subst, arith}
+use Rattle.std.proofs.Common.{◌≡◌, ℕ, zero, suc, ◌+◌, ◌<◌, ◌≤◌, ◌⊎◌, inl, inr, Bool, List, [], ◌∷◌, ◌++◌, length, take, map, min, add-one, Option, Some, None, refl, ap, sym, ◌∙◌, subst, arith}
 use Rattle.std.specs.Prelude.{slice_get, slice_index}
 use Rattle.std.proofs.lemmas.List.{take_more, length-take-le}
 use Rattle.derivation_log.specs.Logs.{Log}
@@ -49,6 +49,17 @@ some_reached s law c claim =
 
 pub first_proper : (s : Setting) → Laws s → (frame : Frame) (levels : List (List ℕ)) (made given : List ℕ) → frame ≡ frame_of s.main → levels ≡ frame.levels → made ≡ map length levels → given ≡ made → IsAskable s (NoModelWith given [])
 first_proper s law frame levels made given e f g h = ready s law (NoModelWith given []) (subst (λ us. FitLevels us s.main.levels) (sym (lengths_of s frame levels made given e f g h)) (lengths_fit s.main.levels), omega arith)
+
+-- limits of at most the levels' lengths
+limits_fit : (most : ℕ) (levels : List (List ℕ)) → FitLevels (map (λ (l : List ℕ). min (length l) most) levels) levels
+limits_fit most [] = tt
+limits_fit most (l ∷ ls) = (omega arith, limits_fit most ls)
+
+pub within_proper : (s : Setting) → Laws s → (frame : Frame) (levels : List (List ℕ)) (made given : List ℕ) (most : ℕ) → frame ≡ frame_of s.main → levels ≡ frame.levels → made ≡ map (λ (l : List ℕ). min (length l) most) levels → given ≡ made → IsAskable s (NoModelWith given [])
+within_proper s law frame levels made given most e f g h =
+    let same : levels ≡ s.main.levels = f ∙ ap (λ (x : Frame). x.levels) e in
+    let fits : FitLevels given levels = subst (λ us. FitLevels us levels) (sym (h ∙ g)) (limits_fit most levels) in
+    ready s law (NoModelWith given []) (subst (λ ls. FitLevels given ls) same fits, omega arith)
 
 pub first_refuted : (s : Setting) → Laws s → (frame : Frame) (levels : List (List ℕ)) (made given : List ℕ) (log : Log) (r : Reply) (number : ℕ) → IsConsistent s → frame ≡ frame_of s.main → levels ≡ frame.levels → made ≡ map length levels → given ≡ made → r ≡ Refuted number → IsAnswer s log (NoModelWith given []) r → ⊥
 first_refuted s law frame levels made given log r number c e f g h is answer =

@@ -5,4 +5,6 @@ pub mod Laws
 pub mod SettingLaws
 pub mod LevelValues
 pub mod Results
+pub mod AtHand
+pub mod Probes
 pub mod Turns

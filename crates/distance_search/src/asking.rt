@@ -1,7 +1,8 @@
 // Who answers claims on a problem.
-ghost use Rattle.std.specs.Prelude.{◌≡◌, ℕ, ◌≤◌, length, All, IfOk, MatchResult};
+ghost use Rattle.std.specs.Prelude.{◌≡◌, ℕ, ◌<◌, ◌≤◌, length, All, IfOk, MatchResult};
 ghost use Rattle.cdcl_core.specs.Replies.{IsLonger};
-ghost use Rattle.merge_encoding.specs.Claims.{said};
+ghost use Rattle.formulas.specs.Formulas.{holds};
+ghost use Rattle.merge_encoding.specs.Claims.{said, ask_at};
 ghost use Rattle.merge_encoding.specs.Frames.{frame_of};
 ghost use Rattle.merge_model.specs.Merging.{repeated};
 ghost use Rattle.distance_search.specs.Setting.{Setting, IsOver, IsAskable};
@@ -37,12 +38,23 @@ pub trait Questions {
         requires right { length right ≡ (setting self.now).profile.atoms }
         ensures { result ≡ (setting self.now).dist left right };
 
+    /// Whether a query is true at a valuation over the problem's atoms.
+    fn satisfies(&self, model: Valuation, ask: usize) -> bool
+        requires sized { length model ≡ (setting self.now).profile.atoms }
+        requires ask { ask < length (setting self.now).asks }
+        ensures { result ≡ holds (ask_at (setting self.now).asks ask) model };
+
     /// The rank of distances, one for each agent; `NoMemory` for want of it.
     fn measure(&self, alloc: Global, vector: &[u32]) -> Result<Vec<u32>, NoMemory>
         requires sized { length vector.now ≡ length (setting self.now).profile.bases }
         requires within { All (λ k. k ≤ (setting self.now).top) vector.now }
         ensures { IfOk result (λ ranked. ranked.items
             ≡ (setting self.now).rank (repeated (setting self.now).profile.times vector.now)) };
+
+    /// Puts questions whose answers prove nothing, so that the solver learns from them, and answers what the first
+    /// level may be at most to begin with; `NoMemory` for want of it.
+    fn warm_up(&self, alloc: Global, engine: &mut Engine) -> Result<u32, NoMemory>
+        ensures longer { IsLonger engine.old.log engine.new.log };
 
     /// Answers a claim: it is true, and a step of the log shows it, or valuations break it. `GaveUp` where the
     /// budget was spent on it, and `NoMemory` for want of memory.

@@ -1,5 +1,5 @@
 // The exact distances of a model.
-ghost use Rattle.std.specs.Prelude.{◌≡◌, ◌<◌, length, take, All, MatchResult};
+ghost use Rattle.std.specs.Prelude.{◌≡◌, ◌<◌, length, All, MatchResult};
 ghost use Rattle.std.specs.List.{AllZip};
 ghost use Rattle.cdcl_core.specs.Replies.{IsLonger};
 ghost use Rattle.merge_model.specs.Merging.{IsModel, HasModel};

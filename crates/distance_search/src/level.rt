@@ -1,5 +1,5 @@
 // Making the levels least.
-ghost use Rattle.std.specs.Prelude.{◌≡◌, ◌<◌, length, map, IfOk, MatchResult};
+ghost use Rattle.std.specs.Prelude.{◌≡◌, ◌<◌, length, map, min, IfOk, MatchResult};
 ghost use Rattle.cdcl_core.specs.Replies.{IsLonger};
 ghost use Rattle.distance_search.specs.Setting.{IsOver};
 ghost use Rattle.distance_search.specs.Heard.{IsHalted};
@@ -43,8 +43,19 @@ fn level_lengths(alloc: Global, levels: &[Unary]) -> Result<Vec<u32>, NoMemory>
     Ok(lengths)
 }
 
+// The lengths of the levels, or a value where that is less.
+fn level_limits(alloc: Global, levels: &[Unary], most: u32) -> Result<Vec<u32>, NoMemory>
+    ensures { IfOk result (λ limits. limits.items ≡ map (λ level. min (length level) most) levels.now) }
+{
+    let mut limits = Vec::new(alloc);
+    for level in levels {
+        limits.push(level.len().min(most))?;
+    }
+    Ok(limits)
+}
+
 /// Models of the constraint and of each base. One question.
-pub fn first<Q: Questions>(
+fn any_models<Q: Questions>(
     alloc: Global,
     questions: &Q,
     engine: &mut Engine,
@@ -62,6 +73,46 @@ pub fn first<Q: Questions>(
         Reply::Refuted(_) => unreachable!(),
         Reply::Found(witness) => Ok(witness),
     }
+}
+
+/// Models of the constraint and of each base, with levels of at most a value where there are such.
+fn models_within<Q: Questions>(
+    alloc: Global,
+    questions: &Q,
+    engine: &mut Engine,
+    most: u32,
+) -> Result<Witness, SearchStop>
+    requires main { IsOver (Q.setting questions.now) engine.old.log }
+    requires consistent { IsConsistent (Q.setting questions.now) }
+    ensures main { IsOver (Q.setting questions.now) engine.new.log }
+    ensures longer { IsLonger engine.old.log engine.new.log }
+    ensures answer { MatchResult result
+        (λ x. IsReached (Q.setting questions.now) x)
+        (λ stop. IsHalted engine.old.log engine.new.log (Q.budget questions.now) stop) }
+{
+    let limits = level_limits(alloc, questions.frame().levels.as_slice(), most)?;
+    match ask_with(alloc, questions, engine, limits.as_slice(), &[])? {
+        Reply::Refuted(_) => any_models(alloc, questions, engine),
+        Reply::Found(witness) => Ok(witness),
+    }
+}
+
+/// Models of the constraint and of each base, after a warm-up.
+pub fn first<Q: Questions>(
+    alloc: Global,
+    questions: &Q,
+    engine: &mut Engine,
+) -> Result<Witness, SearchStop>
+    requires main { IsOver (Q.setting questions.now) engine.old.log }
+    requires consistent { IsConsistent (Q.setting questions.now) }
+    ensures main { IsOver (Q.setting questions.now) engine.new.log }
+    ensures longer { IsLonger engine.old.log engine.new.log }
+    ensures answer { MatchResult result
+        (λ x. IsReached (Q.setting questions.now) x)
+        (λ stop. IsHalted engine.old.log engine.new.log (Q.budget questions.now) stop) }
+{
+    let most = questions.warm_up(alloc, engine)?;
+    models_within(alloc, questions, engine, most)
 }
 
 /// Lowers a level's value until no lower one is there.

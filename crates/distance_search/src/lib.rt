@@ -9,10 +9,13 @@ mod engine;
 mod hearing;
 mod level;
 mod naming;
+mod pool;
 mod question;
 mod reply;
 mod search;
 mod subject;
+mod totals;
+mod warming;
 
 pub use answer::{Away, Best, Consistency, Entails, Named};
 pub use asking::Questions;

@@ -1,5 +1,5 @@
 // Which formulas have models.
-ghost use Rattle.std.specs.Prelude.{◌≡◌, ◌<◌, length, MatchResult};
+ghost use Rattle.std.specs.Prelude.{◌<◌, length, MatchResult};
 ghost use Rattle.cdcl_core.specs.Replies.{IsLonger};
 ghost use Rattle.merge_encoding.specs.Claims.{NoModelOfConstraint, NoModelOfBase, base_at};
 ghost use Rattle.distance_search.specs.Setting.{IsOver};

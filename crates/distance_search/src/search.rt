@@ -9,6 +9,7 @@ ghost use Rattle.merge_encoding.specs.MainDues.{due_for};
 ghost use Rattle.merge_model.specs.Answers.{profile_of};
 ghost use Rattle.merge_model.specs.Merging.{HasModel};
 ghost use Rattle.distance_search.specs.Setting.{setting_of, IsOver};
+ghost use Rattle.distance_search.specs.AtHand.{AreAtHand};
 ghost use Rattle.distance_search.specs.Heard.{IsHalted};
 ghost use Rattle.distance_search.specs.Results.{IsConsistent, IsBestFor, IsBest, IsAway, IsJudged, IsConsistency, IsWith};
 
@@ -17,7 +18,7 @@ use crate::asking::Questions;
 use crate::engine::Engine;
 use crate::reply::SearchStop;
 use crate::subject::Subject;
-use crate::{closest, distances, naming};
+use crate::{closest, distances, naming, pool};
 use agent_copies::Counted;
 use aggregators::Levelled;
 use cdcl_core::Solver;
@@ -39,12 +40,17 @@ use std::alloc::Global;
 pub struct Search<D: Counted + Drop, A: Levelled + Drop> {
     subject: Subject<D, A>,
     engine: Engine,
+    pool: Vec<Away>,
     failed: bool,
     alloc: Global,
     ghost over: { IsOver (setting_of
         (D.dist subject.distance) (D.most subject.distance) (D.due subject.distance)
         (A.rank subject.aggregator) (A.levels_of subject.aggregator) (A.levels_due subject.aggregator)
         subject.problem) engine.log },
+    ghost at_hand: { AreAtHand (setting_of
+        (D.dist subject.distance) (D.most subject.distance) (D.due subject.distance)
+        (A.rank subject.aggregator) (A.levels_of subject.aggregator) (A.levels_due subject.aggregator)
+        subject.problem) engine.log pool.items },
 }
 
 impl<D: Counted + Drop, A: Levelled + Drop> Search<D, A> {
@@ -77,6 +83,7 @@ impl<D: Counted + Drop, A: Levelled + Drop> Search<D, A> {
         Ok(Search {
             subject,
             engine,
+            pool: Vec::new(alloc),
             failed: false,
             alloc,
         })
@@ -149,7 +156,7 @@ impl<D: Counted + Drop, A: Levelled + Drop> Search<D, A> {
             self.note(true);
             return Err(SearchStop::NoMemory);
         }
-        let outcome = closest::best(self.alloc, &self.subject, &mut self.engine);
+        let outcome = pool::best(self.alloc, &self.subject, &mut self.engine, &mut self.pool);
         self.note(is_wanting(&outcome));
         outcome
     }
@@ -202,7 +209,14 @@ impl<D: Counted + Drop, A: Levelled + Drop> Search<D, A> {
             self.note(true);
             return Err(SearchStop::NoMemory);
         }
-        let outcome = closest::entails(self.alloc, &self.subject, &mut self.engine, best, ask);
+        let outcome = pool::entails(
+            self.alloc,
+            &self.subject,
+            &mut self.engine,
+            &mut self.pool,
+            best,
+            ask,
+        );
         self.note(is_wanting(&outcome));
         outcome
     }
@@ -263,6 +277,7 @@ impl<D: Counted + Drop, A: Levelled + Drop> Search<D, A> {
         let Search {
             subject,
             engine,
+            pool: _,
             failed,
             alloc: _,
         } = self;
@@ -282,6 +297,7 @@ impl<D: Counted + Drop, A: Levelled + Drop> Search<D, A> {
         let Search {
             subject,
             engine,
+            pool: _,
             failed: _,
             alloc: _,
         } = self;

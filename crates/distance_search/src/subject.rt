@@ -1,6 +1,5 @@
 // A problem with its frame, and its questions.
-ghost use Rattle.std.specs.Prelude.{◌≡◌, ◌≤◌, IfOk, OnOk, map};
-ghost use Rattle.clause_store.specs.Lits.{sorted_clause};
+ghost use Rattle.std.specs.Prelude.{◌≡◌, ◌≤◌};
 ghost use Rattle.merge_encoding.specs.Frames.{frame_of};
 ghost use Rattle.merge_encoding.specs.MainDues.{due_for};
 
@@ -8,12 +7,12 @@ use crate::asking::Questions;
 use crate::engine::Engine;
 use crate::hearing::hear;
 use crate::reply::{Reply, SearchStop};
+use crate::warming::warm_up;
 use agent_copies::Counted;
 use aggregators::Levelled;
-use clause_store::ClauseList;
 use edge::NoMemory;
 use formulas::Valuation;
-use merge_encoding::{Claim, Frame, Main, encode};
+use merge_encoding::{Claim, Frame};
 use merge_model::{Problem, full_vector, measure};
 use std::alloc::Global;
 
@@ -59,9 +58,23 @@ impl<D: Counted + Drop, A: Levelled + Drop> Questions for Subject<D, A> {
         self.distance.between(left, right)
     }
 
+    fn satisfies(&self, model: Valuation, ask: usize) -> bool {
+        self.problem.asks.as_slice()[ask].holds(&model)
+    }
+
     fn measure(&self, alloc: Global, vector: &[u32]) -> Result<Vec<u32>, NoMemory> {
         let full = full_vector(alloc, vector, self.problem.agents.as_slice())?;
         measure(alloc, &self.aggregator, &full)
+    }
+
+    fn warm_up(&self, alloc: Global, engine: &mut Engine) -> Result<u32, NoMemory> {
+        warm_up(
+            alloc,
+            &self.frame,
+            self.problem.agents.as_slice(),
+            engine,
+            self.budget,
+        )
     }
 
     fn ask(&self, alloc: Global, engine: &mut Engine, claim: &Claim) -> Result<Reply, SearchStop> {

@@ -1,8 +1,14 @@
-use Rattle.distance_search.proofs.Lowering.{first_proper, first_refuted}
+use Rattle.distance_search.proofs.Logs.{over_on}
+use Rattle.cdcl_core.proofs.Longer.{longer_on}
+use Rattle.distance_search.proofs.Halts.{halted_result, halted_none}
+use Rattle.distance_search.specs.Turns.{IsReached}
 use Rattle.distance_search.proofs.level.first.Goals as goal
 
-pub ask_with-requires-clause-proper : goal.ask_with-requires-clause-proper
-ask_with-requires-clause-proper g c = first_proper (g.Q.Questions.setting c.args.questions.now) (g.met.Q.Questions.laws c.args.questions.now) c.frame.result.now c.as_slice.result.now c.in_ok-lengths.lengths.items c.as_slice-2.result.now c.frame.ensures c.as_slice.ensures c.in_ok-lengths.ensures c.as_slice-2.ensures.value
+pub models_within-requires-clause-main : goal.models_within-requires-clause-main
+models_within-requires-clause-main g c = over_on (g.Q.Questions.setting c.args.questions.now) c.args.engine.now.log c.warm_up.new.engine.log c.in_ok-most.ensures.longer c.requires.main
 
-pub unreachable-requires : goal.unreachable-requires
-unreachable-requires g c = first_refuted (g.Q.Questions.setting c.args.questions.now) (g.met.Q.Questions.laws c.args.questions.now) c.frame.result.now c.as_slice.result.now c.in_ok-lengths.lengths.items c.as_slice-2.result.now c.ask_with.new.engine.log c.in_ok-ask_with.field-0 c.in-Refuted.field-0 c.requires.consistent c.frame.ensures c.as_slice.ensures c.in_ok-lengths.ensures c.as_slice-2.ensures.value c.in-Refuted.is c.in_ok-ask_with.ensures.answer
+pub returns-clause-longer : goal.returns-clause-longer
+returns-clause-longer g c = longer_on c.args.engine.now.log c.warm_up.new.engine.log c.models_within.new.engine.log c.in_ok-most.ensures.longer c.models_within.ensures.longer
+
+pub returns-clause-answer : goal.returns-clause-answer
+returns-clause-answer g c = halted_result (IsReached (g.Q.Questions.setting c.args.questions.now)) c.args.engine.now.log c.warm_up.new.engine.log c.models_within.new.engine.log (g.Q.Questions.budget c.args.questions.now) c.in_ok-most.ensures.longer c.models_within.result c.models_within.ensures.answer

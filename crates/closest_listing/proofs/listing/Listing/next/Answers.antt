@@ -1,4 +1,4 @@
-use Rattle.closest_listing.proofs.Known.{best_known}
+use Rattle.distance_search.proofs.Known.{best_known}
 use Rattle.closest_listing.proofs.listing.Listing.next.Goals as goal
 
 pub next_closest-outcome-requires-clause-best : goal.next_closest-outcome-requires-clause-best

@@ -1,0 +1,5 @@
+use Rattle.distance_search.proofs.Kept.{at_hand_on}
+use Rattle.distance_search.proofs.search.Search.consistency.Goals as goal
+
+pub invariant_of-self-clause-at_hand : goal.invariant_of-self-clause-at_hand
+invariant_of-self-clause-at_hand g c = at_hand_on _ c.args.self.now.engine.log c.consistency-outcome.new.engine.log c.args.self.now.pool.items c.consistency-outcome.ensures.longer c.args.self.now.at_hand

@@ -1,0 +1,5 @@
+//! Worked searches. There is nothing here but tests.
+#![tactic(auto)]
+
+#[cfg(test)]
+mod tests;
