@@ -33,7 +33,7 @@ Rise-bounds from (e ∷ es) all zero r h = record { start = r.0; end = Rise-end 
 Rise-bounds from (e ∷ es) all (suc k) r h = let b = Rise-bounds e es all k r.1 (omega arith) in record { start = b.start; end = b.end }
 
 -- a piece within the front is that of the front
-range-front : (xs ys : List Lit) (i j : ℕ) → i ≤ j → j ≤ length xs → slice_range (xs ++ ys) i j ≡ slice_range xs i j
+pub range-front : (xs ys : List Lit) (i j : ℕ) → i ≤ j → j ≤ length xs → slice_range (xs ++ ys) i j ≡ slice_range xs i j
 range-front xs ys i j h k = grind (arith, common_steps)
 
 range-back : (xs ys : List Lit) → slice_range (xs ++ ys) (length xs) (length xs + length ys) ≡ ys

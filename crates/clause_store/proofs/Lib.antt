@@ -7,6 +7,7 @@ pub mod Searches
 pub mod Sorts
 pub mod Merges
 pub mod Cuts
+pub mod Packing
 pub mod Numbered
 pub mod Truths
 pub mod Blocks

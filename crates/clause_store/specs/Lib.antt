@@ -3,6 +3,7 @@ pub mod Lits
 pub mod LitOrder
 pub mod Fresh
 pub mod Clauses
+pub mod Keeping
 pub mod Truth
 pub mod Refutes
 pub mod Extends

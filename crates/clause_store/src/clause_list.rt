@@ -1,6 +1,7 @@
 // A list of clauses in one flat list of literals.
 ghost use Rattle.std.specs.Prelude.{◌≡◌, ◌+◌, ◌^◌, ◌<◌, ◌≤◌, [], ◌∷◌, ◌++◌, length, slice_get};
-ghost use Rattle.std.specs.Prelude.{Some, IfOk, OnOk, OnErr};
+ghost use Rattle.std.specs.Prelude.{Some, IfOk, OnOk, OnErr, take, drop};
+ghost use Rattle.clause_store.specs.Keeping.{kept_of};
 ghost use Rattle.clause_store.specs.Lits.{Ascends, InRange, positive_lit, sorted_clause};
 ghost use Rattle.clause_store.specs.Clauses.{cut, Rise, start_at};
 ghost use Rattle.clause_store.specs.Fresh.{fresh_lits, fresh_vars};
@@ -150,6 +151,16 @@ impl ClauseList {
         Ok(number)
     }
 
+    /// Keeps the first `from` clauses and of those after them the marked ones, in order, which are
+    /// numbered anew without gaps. It takes no memory.
+    pub fn keep(&mut self, from: u64, marks: &[bool])
+        requires { from + length marks.now ≡ length self.old.list }
+        ensures { self.new ≡ record self.old
+            { list = take from self.old.list ++ kept_of marks.now (drop from self.old.list) } }
+    {
+        pack(&mut self.lits, &mut self.ends, from as usize, marks);
+    }
+
     /// The place of the end is reserved first, so that nothing can fail once the literals stand.
     fn add_sorted(&mut self, lits: &[Lit]) -> Result<u64, NoMemory>
         requires ascends { Ascends lits.now }
@@ -172,6 +183,36 @@ impl ClauseList {
         self.ends.push(end as u32)?;
         Ok(number)
     }
+}
+
+/// Leaves out the clauses that are not marked, of those from a number on.
+fn pack(lits: &mut Vec<Lit>, ends: &mut Vec<u32>, from: usize, marks: &[bool])
+    requires rise { Rise 0 ends.old.items (length lits.old.items) }
+    requires whole { from + length marks.now ≡ length ends.old.items }
+    requires few { length lits.old.items < 2 ^ 32 }
+    ensures rise { Rise 0 ends.new.items (length lits.new.items) }
+    ensures shorter { length lits.new.items ≤ length lits.old.items }
+    ensures kept { cut 0 ends.new.items lits.new.items ≡ take from (cut 0 ends.old.items lits.old.items) ++
+        kept_of marks.now (drop from (cut 0 ends.old.items lits.old.items)) }
+{
+    if marks.is_empty() {
+        return;
+    }
+    let mut count = from;
+    let mut begin = start(ends, from) as usize;
+    let mut end = begin;
+    for (k, mark) in marks.iter().enumerate() {
+        let next = ends[from + k] as usize;
+        if *mark {
+            lits.copy_within(begin..next, end);
+            end += next - begin;
+            ends[count] = end as u32;
+            count += 1;
+        }
+        begin = next;
+    }
+    ends.truncate(count);
+    lits.truncate(end);
 }
 
 /// The literals of a clause.
