@@ -1,30 +1,18 @@
 -- What the watches keep when literals are taken back, and where levels end.
-use Rattle.std.proofs.Common.{◌≡◌, ◌≢◌, ℕ, ◌+◌, ◌-◌, ◌*◌, ◌<◌, ◌≤◌, true, false, List, [], ◌∷◌, ◌++◌, length, refl, ap, sym, ◌∙◌, arith, get_or, zero, suc, Some, None, Option, inl, inr, subst, length-append, drop}
-use Rattle.std.proofs.Math.ListN.{take}
-use Rattle.std.proofs.lemmas.List.{drop-append-le, length-replicate, get_or-replicate, get_or_append_left}
+use Rattle.std.proofs.Common.{◌≡◌, ◌≢◌, ℕ, ◌+◌, ◌-◌, ◌<◌, ◌≤◌, true, false, List, [], ◌∷◌, ◌++◌, length, refl, ap, sym, ◌∙◌, arith, get_or, zero, suc, inl, inr, subst, length-append, drop}
+use Rattle.std.proofs.lemmas.List.{drop-append-le, length-replicate, get_or-replicate}
 use Rattle.std.proofs.Common.{replicate, get_or-set_other, get_or-set_same}
 use Rattle.std.proofs.Math.ListN.{set, length-set}
-use Rattle.std.proofs.lemmas.List.Elements.{All-push, Contains-append_left, Contains-push}
 use Rattle.std.proofs.lemmas.Bool.{cases_lt}
-use Rattle.std.specs.Prelude.{◌⊎◌, nat_le, All, Contains}
-use Rattle.std.specs.Prelude.{is_some, IfNone, IfSome}
-use Rattle.clause_store.specs.declared.lit.Lit.{Lit}
-use Rattle.clause_store.specs.Lits.{rank_of}
-use Rattle.clause_store.specs.Clauses.{Clauses, clause_at}
-use Rattle.clause_store.proofs.Numbered.{clause_at-get}
+use Rattle.std.specs.Prelude.{◌⊎◌, nat_le, All}
+use Rattle.clause_store.specs.Clauses.{Clauses}
 use Rattle.watch_lists.specs.declared.entry.Entry.{Entry}
-use Rattle.watch_lists.specs.Trace.{Trace, IsTrace, value_of, AreApart, IsStacked, upto, oldest, Place, places_of, Extends, ExtendsAt, Grows, Same, More, Attached, StandIn, attached_of, IsComplete, IsFalsified, room_of, room_in}
-use Rattle.watch_lists.specs.Chains.{Chain, IsOnce, list_at}
-use Rattle.watch_lists.specs.Watches.{lit_at, place_of, mate, clause_of, IsLive, IsOlder, Guard, IsWatch, IsWatching, IsAtLevel, Now, Later, IsCaught, IsDrained, HasSmall, IsAtRest, IsBack, IsNoted, HasEnds}
+use Rattle.watch_lists.specs.Trace.{Trace, IsTrace, IsStacked, upto, oldest, Place, places_of, Extends, ExtendsAt}
+use Rattle.watch_lists.specs.Watches.{IsWatching, IsAtRest, IsBack, HasEnds}
 use Rattle.watch_lists.proofs.Traces.{oldest_cons, stacked_upto}
-use Rattle.watch_lists.proofs.Scans.{attached_at, complete_all}
-use Rattle.watch_lists.proofs.Parts.{room_cons}
-use Rattle.watch_lists.proofs.Guards.{stacked_ordered, stacked_part, oldest_all, oldest_part, value_upto, value_ext, upto_all, grows_value, IsOrdered}
-use Rattle.watch_lists.proofs.Walks.{each_more}
-use Rattle.watch_lists.proofs.Fresh.{upto_level, oldest_zero, room_two}
-use Rattle.watch_lists.proofs.Queue.{length-oldest}
-use Rattle.watch_lists.proofs.Complete.{watching_cut, watching_undo}
-use Rattle.watch_lists.proofs.Places.{upto_places, head_place, heads, top_le, guard_places, oldest_prefix, below_short, upto_prefix, same_length, prefix_length, length_places}
+use Rattle.watch_lists.proofs.Guards.{stacked_ordered, stacked_part, oldest_all, oldest_part, upto_all, IsOrdered}
+use Rattle.watch_lists.proofs.Complete.{watching_undo}
+use Rattle.watch_lists.proofs.Places.{upto_places, head_place, heads, top_le, oldest_prefix, upto_prefix, same_length, prefix_length, length_places}
 use Rattle.watch_lists.proofs.Rests.{watching_places, watching_prefix}
 
 places_drop : (n : ℕ) (es : List Entry) → places_of (drop n es) ≡ drop n (places_of es)
@@ -222,7 +210,7 @@ whole_level newer ends vars end f t h fi ti x ee el =
           ap places_of (oldest_all (length t.entries) t.entries (omega arith)),
     )
 
-pub finish_undo : (heads next : List ℕ) (watched : List Lit) (numbers small : List ℕ)
+pub finish_undo : (heads next : List ℕ) (watched : List ℕ) (numbers small : List ℕ)
     (looked head at done done' vars : ℕ) (known : Clauses) (f t : Trace) (ends : List ℕ) →
     IsAtRest heads next watched numbers small looked head done vars known f → IsTrace t →
     Extends (places_of t.entries) (places_of f.entries) ⊎ Extends (places_of f.entries)

@@ -1,16 +1,15 @@
 -- Small clauses that hold, and go on to hold while the trail grows.
-use Rattle.std.proofs.Common.{◌≡◌, ℕ, ◌+◌, ◌-◌, ◌<◌, ◌≤◌, true, List, [], ◌∷◌, ◌++◌, length, sym, ap, ◌∙◌, arith, get_or, Option, Some, None, inl, inr, subst, drop, min, length-append}
+use Rattle.std.proofs.Common.{◌≡◌, ℕ, ◌-◌, ◌<◌, ◌≤◌, true, List, [], ◌∷◌, ◌++◌, length, sym, ap, ◌∙◌, arith, get_or, Some, inl, inr, subst, drop, min, length-append}
 use Rattle.std.proofs.lemmas.Bool.{cases_lt}
 use Rattle.std.proofs.lemmas.List.{get_or-drop, length-drop, get_or_append_left, get_or_default}
-use Rattle.std.proofs.lemmas.List.Elements.{All-drop}
-use Rattle.std.specs.Prelude.{All, Contains, IfNone, ◌⊎◌}
+use Rattle.std.specs.Prelude.{All, Contains, ◌⊎◌}
 use Rattle.clause_store.specs.declared.lit.Lit.{Lit}
-use Rattle.clause_store.specs.Clauses.{Clauses, clause_at}
+use Rattle.clause_store.specs.Clauses.{clause_at}
 use Rattle.watch_lists.specs.declared.entry.Entry.{Entry}
-use Rattle.watch_lists.specs.Trace.{Trace, Attached, Place, value_of, room_of, oldest, places_of, Extends, Grows, StandIn, IsComplete, attached_of, AreApart}
+use Rattle.watch_lists.specs.Trace.{Attached, Place, value_of, room_of, oldest, places_of, Extends, Grows, StandIn, IsComplete, attached_of, AreApart}
 use Rattle.watch_lists.specs.Watches.{HoldFirst, AreSettled, IsKept, IsHeld, IsNoted, HasSmall, clause_of}
 use Rattle.watch_lists.proofs.Scans.{complete_all}
-use Rattle.watch_lists.proofs.Places.{value_places, oldest_prefix, oldest_places, prefix_length, same_length}
+use Rattle.watch_lists.proofs.Places.{value_places, oldest_prefix, prefix_length}
 use Rattle.watch_lists.proofs.Guards.{oldest_all, oldest_part, value_up, grows_value}
 use Rattle.watch_lists.proofs.Rests.{room_short, stand_clause, complete_at}
 
