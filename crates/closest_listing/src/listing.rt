@@ -77,7 +77,8 @@ impl<D: Counted + Drop, A: Levelled + Drop> Listing<D, A> {
         ensures best { self.new.best ≡ self.old.best }
         ensures longer { IsLonger self.old.engine.log self.new.engine.log }
         ensures sound { IsLog self.new.engine.log }
-        ensures over { IsOver (⟦<Subject<D, A> as Questions>⟧.setting self.old.subject) self.new.engine.log }
+        ensures over { IsOver (⟦<Subject<D, A> as Questions>⟧.setting self.old.subject)
+            self.new.engine.log }
         ensures answer { MatchResult result
             (λ next. IsNextListed
             (⟦<Subject<D, A> as Questions>⟧.setting self.old.subject) self.old.after next)

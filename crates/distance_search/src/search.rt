@@ -34,8 +34,8 @@ use std::alloc::Global;
 ///
 /// A call that asks questions answers `GaveUp` where its last question learned as many steps as the budget
 /// allows, with the number of the first of them, and `NoMemory` for want of memory. Once a call has answered
-/// `NoMemory`, every later one does, and nothing changes. The log grows at its end alone, by steps that follow, also
-/// where a call has no answer.
+/// `NoMemory`, every later one does, and nothing changes. The log grows at its end alone, by steps
+/// that follow, also where a call has no answer.
 #[derive(Drop)]
 pub struct Search<D: Counted + Drop, A: Levelled + Drop> {
     subject: Subject<D, A>,
@@ -120,7 +120,8 @@ impl<D: Counted + Drop, A: Levelled + Drop> Search<D, A> {
         ensures subject { self.new.subject ≡ self.old.subject }
         ensures longer { IsLonger self.old.engine.log self.new.engine.log }
         ensures sound { IsLog self.new.engine.log }
-        ensures over { IsOver (⟦<Subject<D, A> as Questions>⟧.setting self.old.subject) self.new.engine.log }
+        ensures over { IsOver (⟦<Subject<D, A> as Questions>⟧.setting self.old.subject)
+            self.new.engine.log }
         ensures answer { MatchResult result
             (λ found. IsConsistency (⟦<Subject<D, A> as Questions>⟧.setting self.old.subject) self.new.engine.log found)
             (λ stop. IsHalted self.old.engine.log self.new.engine.log self.old.subject.budget stop) }
@@ -144,7 +145,8 @@ impl<D: Counted + Drop, A: Levelled + Drop> Search<D, A> {
         ensures subject { self.new.subject ≡ self.old.subject }
         ensures longer { IsLonger self.old.engine.log self.new.engine.log }
         ensures sound { IsLog self.new.engine.log }
-        ensures over { IsOver (⟦<Subject<D, A> as Questions>⟧.setting self.old.subject) self.new.engine.log }
+        ensures over { IsOver (⟦<Subject<D, A> as Questions>⟧.setting self.old.subject)
+            self.new.engine.log }
         ensures answer { MatchResult result
             (λ best. IsBest (⟦<Subject<D, A> as Questions>⟧.setting self.old.subject) self.new.engine.log best)
             (λ stop. IsHalted self.old.engine.log self.new.engine.log self.old.subject.budget stop) }
@@ -170,7 +172,8 @@ impl<D: Counted + Drop, A: Levelled + Drop> Search<D, A> {
         ensures subject { self.new.subject ≡ self.old.subject }
         ensures longer { IsLonger self.old.engine.log self.new.engine.log }
         ensures sound { IsLog self.new.engine.log }
-        ensures over { IsOver (⟦<Subject<D, A> as Questions>⟧.setting self.old.subject) self.new.engine.log }
+        ensures over { IsOver (⟦<Subject<D, A> as Questions>⟧.setting self.old.subject)
+            self.new.engine.log }
         ensures answer { MatchResult result
             (λ away. IsAway (⟦<Subject<D, A> as Questions>⟧.setting self.old.subject) self.new.engine.log away
             × (away.shown.model ≡ model))
@@ -196,7 +199,8 @@ impl<D: Counted + Drop, A: Levelled + Drop> Search<D, A> {
         ensures subject { self.new.subject ≡ self.old.subject }
         ensures longer { IsLonger self.old.engine.log self.new.engine.log }
         ensures sound { IsLog self.new.engine.log }
-        ensures over { IsOver (⟦<Subject<D, A> as Questions>⟧.setting self.old.subject) self.new.engine.log }
+        ensures over { IsOver (⟦<Subject<D, A> as Questions>⟧.setting self.old.subject)
+            self.new.engine.log }
         ensures answer { MatchResult result
             (λ judged. IsJudged (⟦<Subject<D, A> as Questions>⟧.setting self.old.subject) self.new.engine.log
             ask best.now.values judged)
@@ -233,7 +237,8 @@ impl<D: Counted + Drop, A: Levelled + Drop> Search<D, A> {
         ensures subject { self.new.subject ≡ self.old.subject }
         ensures longer { IsLonger self.old.engine.log self.new.engine.log }
         ensures sound { IsLog self.new.engine.log }
-        ensures over { IsOver (⟦<Subject<D, A> as Questions>⟧.setting self.old.subject) self.new.engine.log }
+        ensures over { IsOver (⟦<Subject<D, A> as Questions>⟧.setting self.old.subject)
+            self.new.engine.log }
         ensures answer { MatchResult result
             (λ found. IsWith (⟦<Subject<D, A> as Questions>⟧.setting self.old.subject) prefix.now found)
             (λ stop. IsHalted self.old.engine.log self.new.engine.log self.old.subject.budget stop) }

@@ -174,7 +174,7 @@ ready_claimed g w f n t s r u fl =
     }
 
 -- what holds of each attached clause
-pub all_map : (P : List Lit → Type 0) (w : List Attached) → All (λ (a : Attached). P a.clause) w → All P (map (λ (a : Attached). a.clause) w)
+all_map : (P : List Lit → Type 0) (w : List Attached) → All (λ (a : Attached). P a.clause) w → All P (map (λ (a : Attached). a.clause) w)
 all_map P [] h k d lt = absurd (omega arith)
 all_map P (a ∷ w) h zero d lt = h 0 a (omega arith)
 all_map P (a ∷ w) h (suc k) d lt = all_map P w (λ j e l. h (suc j) e (omega arith)) k d (omega arith)
