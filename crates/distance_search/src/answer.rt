@@ -10,8 +10,8 @@ use merge_model::{Sequence, Shown};
 pub struct Away {
     /// The model, its distance to each base, and a nearest model of each base.
     pub shown: Shown,
-    /// For each agent the number of the step that refutes that a model of its base is nearer, and `None` exactly at a
-    /// distance of 0.
+    /// For each agent the number of the step that refutes that a model of its base is nearer, and
+    /// `None` exactly at a distance of 0.
     pub far: Sequence<Option<u64>>,
 }
 
@@ -24,11 +24,11 @@ pub struct Best {
     pub measure: Sequence<u32>,
     /// The level values of its full vector.
     pub values: Sequence<u32>,
-    /// For each agent the number of the step that refutes that a model of its base is nearer, and `None` exactly at a
-    /// distance of 0.
+    /// For each agent the number of the step that refutes that a model of its base is nearer, and
+    /// `None` exactly at a distance of 0.
     pub far: Sequence<Option<u64>>,
-    /// For each level the number of the step that refutes that it can be below its value while the levels before it
-    /// are at most theirs, and `None` exactly at a value of 0.
+    /// For each level the number of the step that refutes that it can be below its value while the
+    /// levels before it are at most theirs, and `None` exactly at a value of 0.
     pub least: Sequence<Option<u64>>,
 }
 

@@ -80,7 +80,8 @@ pub fn entails<Q: Questions>(
     }
 }
 
-/// A closest model that begins with the prefix, if there is one; `best` is a best answer. One question.
+/// A closest model that begins with the prefix, if there is one; `best` is a best answer. One
+/// question.
 pub fn closest_with<Q: Questions>(
     alloc: Global,
     questions: &Q,

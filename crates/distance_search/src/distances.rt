@@ -18,7 +18,8 @@ use merge_encoding::Claim;
 use merge_model::{Sequence, Shown};
 use std::alloc::Global;
 
-/// A nearest model of a base, and the step that shows that none is nearer; no step at a distance of 0.
+/// A nearest model of a base, and the step that shows that none is nearer; no step at a distance of
+/// 0.
 #[derive(Drop)]
 pub struct Nearest {
     /// The model.
@@ -41,7 +42,8 @@ pub fn lower_distance<Q: Questions>(
     requires main { IsOver (Q.setting questions.now) engine.old.log }
     requires agent { agent < length (Q.setting questions.now).profile.bases }
     requires sized { length model ≡ (Q.setting questions.now).profile.atoms }
-    requires start { IsModel (Q.setting questions.now).profile.atoms (base_at (Q.setting questions.now).profile agent) start }
+    requires start { IsModel (Q.setting questions.now).profile.atoms
+        (base_at (Q.setting questions.now).profile agent) start }
     ensures main { IsOver (Q.setting questions.now) engine.new.log }
     ensures longer { IsLonger engine.old.log engine.new.log }
     ensures answer { MatchResult result
@@ -82,7 +84,8 @@ pub fn away_from<Q: Questions>(
 ) -> Result<Away, SearchStop>
     requires main { IsOver (Q.setting questions.now) engine.old.log }
     requires sized { length model ≡ (Q.setting questions.now).profile.atoms }
-    requires starts { AllZip (IsModel (Q.setting questions.now).profile.atoms) (Q.setting questions.now).profile.bases starts.now }
+    requires starts { AllZip (IsModel (Q.setting questions.now).profile.atoms)
+        (Q.setting questions.now).profile.bases starts.now }
     ensures main { IsOver (Q.setting questions.now) engine.new.log }
     ensures longer { IsLonger engine.old.log engine.new.log }
     ensures answer { MatchResult result
@@ -117,11 +120,13 @@ fn base_model<Q: Questions>(
 ) -> Result<Valuation, SearchStop>
     requires main { IsOver (Q.setting questions.now) engine.old.log }
     requires agent { agent < length (Q.setting questions.now).profile.bases }
-    requires bases { All (HasModel (Q.setting questions.now).profile.atoms) (Q.setting questions.now).profile.bases }
+    requires bases { All (HasModel (Q.setting questions.now).profile.atoms)
+        (Q.setting questions.now).profile.bases }
     ensures main { IsOver (Q.setting questions.now) engine.new.log }
     ensures longer { IsLonger engine.old.log engine.new.log }
     ensures answer { MatchResult result
-        (λ v. IsModel (Q.setting questions.now).profile.atoms (base_at (Q.setting questions.now).profile agent) v)
+        (λ v. IsModel (Q.setting questions.now).profile.atoms
+        (base_at (Q.setting questions.now).profile agent) v)
         (λ stop. IsHalted engine.old.log engine.new.log (Q.budget questions.now) stop) }
 {
     match questions.ask(alloc, engine, &Claim::NoModelOfBase(agent))? {
@@ -137,11 +142,13 @@ fn base_models<Q: Questions>(
     engine: &mut Engine,
 ) -> Result<Vec<Valuation>, SearchStop>
     requires main { IsOver (Q.setting questions.now) engine.old.log }
-    requires bases { All (HasModel (Q.setting questions.now).profile.atoms) (Q.setting questions.now).profile.bases }
+    requires bases { All (HasModel (Q.setting questions.now).profile.atoms)
+        (Q.setting questions.now).profile.bases }
     ensures main { IsOver (Q.setting questions.now) engine.new.log }
     ensures longer { IsLonger engine.old.log engine.new.log }
     ensures answer { MatchResult result
-        (λ models. AllZip (IsModel (Q.setting questions.now).profile.atoms) (Q.setting questions.now).profile.bases models.items)
+        (λ models. AllZip (IsModel (Q.setting questions.now).profile.atoms)
+        (Q.setting questions.now).profile.bases models.items)
         (λ stop. IsHalted engine.old.log engine.new.log (Q.budget questions.now) stop) }
 {
     let mut models = Vec::new(alloc);
@@ -161,7 +168,8 @@ pub fn distances_of<Q: Questions>(
 ) -> Result<Away, SearchStop>
     requires main { IsOver (Q.setting questions.now) engine.old.log }
     requires sized { length model ≡ (Q.setting questions.now).profile.atoms }
-    requires bases { All (HasModel (Q.setting questions.now).profile.atoms) (Q.setting questions.now).profile.bases }
+    requires bases { All (HasModel (Q.setting questions.now).profile.atoms)
+        (Q.setting questions.now).profile.bases }
     ensures main { IsOver (Q.setting questions.now) engine.new.log }
     ensures longer { IsLonger engine.old.log engine.new.log }
     ensures answer { MatchResult result

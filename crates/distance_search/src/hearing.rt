@@ -50,7 +50,8 @@ fn read(alloc: Global, frame: &Frame, assignment: &Assignment) -> Result<Witness
     })
 }
 
-/// Asks the solver whether some assignment makes true what the claim assumes, and reads the assignment.
+/// Asks the solver whether some assignment makes true what the claim assumes, and reads the
+/// assignment.
 pub fn hear(
     alloc: Global,
     frame: &Frame,
@@ -64,7 +65,8 @@ pub fn hear(
     requires budget { 1 ≤ budget }
     ensures longer { IsLonger engine.old.log engine.new.log }
     ensures answer { MatchResult result
-        (λ reply. IsHeard frame.now engine.old.log engine.new.log (assumed_in frame.now (said claim.now)) reply)
+        (λ reply. IsHeard frame.now engine.old.log engine.new.log
+        (assumed_in frame.now (said claim.now)) reply)
         (λ stop. IsStopped engine.old.log engine.new.log budget stop) }
 {
     let assumed = assumptions(alloc, frame, claim)?;

@@ -24,7 +24,8 @@ fn name_constraint<Q: Questions>(
     ensures main { IsOver (Q.setting questions.now) engine.new.log }
     ensures longer { IsLonger engine.old.log engine.new.log }
     ensures answer { MatchResult result
-        (λ r. IsNamedBy (Q.setting questions.now) engine.new.log (Q.setting questions.now).profile.constraint NoModelOfConstraint r)
+        (λ r. IsNamedBy (Q.setting questions.now) engine.new.log
+        (Q.setting questions.now).profile.constraint NoModelOfConstraint r)
         (λ stop. IsHalted engine.old.log engine.new.log (Q.budget questions.now) stop) }
 {
     match questions.ask(alloc, engine, &Claim::NoModelOfConstraint)? {
@@ -45,7 +46,8 @@ fn name_base<Q: Questions>(
     ensures main { IsOver (Q.setting questions.now) engine.new.log }
     ensures longer { IsLonger engine.old.log engine.new.log }
     ensures answer { MatchResult result
-        (λ r. IsNamedBy (Q.setting questions.now) engine.new.log (base_at (Q.setting questions.now).profile agent) (NoModelOfBase agent) r)
+        (λ r. IsNamedBy (Q.setting questions.now) engine.new.log
+        (base_at (Q.setting questions.now).profile agent) (NoModelOfBase agent) r)
         (λ stop. IsHalted engine.old.log engine.new.log (Q.budget questions.now) stop) }
 {
     match questions.ask(alloc, engine, &Claim::NoModelOfBase(agent))? {
@@ -54,7 +56,8 @@ fn name_base<Q: Questions>(
     }
 }
 
-/// A model of the constraint and of each base, or the step that shows that there is none. One question for each.
+/// A model of the constraint and of each base, or the step that shows that there is none. One
+/// question for each.
 pub fn consistency<Q: Questions>(
     alloc: Global,
     questions: &Q,

@@ -47,7 +47,8 @@ pub fn ask_better<Q: Questions>(
     ensures main { IsOver (Q.setting questions.now) engine.new.log }
     ensures longer { IsLonger engine.old.log engine.new.log }
     ensures answer { MatchResult result
-        (λ reply. IsAnswer (Q.setting questions.now) engine.new.log (NoBetter level values.now) reply)
+        (λ reply. IsAnswer (Q.setting questions.now) engine.new.log
+        (NoBetter level values.now) reply)
         (λ stop. IsStopped engine.old.log engine.new.log (Q.budget questions.now) stop) }
 {
     let limits = copied(alloc, values)?;
@@ -71,7 +72,8 @@ pub fn ask_breaker<Q: Questions>(
     ensures main { IsOver (Q.setting questions.now) engine.new.log }
     ensures longer { IsLonger engine.old.log engine.new.log }
     ensures answer { MatchResult result
-        (λ reply. IsAnswer (Q.setting questions.now) engine.new.log (NoBreaker ask values.now) reply)
+        (λ reply. IsAnswer (Q.setting questions.now) engine.new.log
+        (NoBreaker ask values.now) reply)
         (λ stop. IsStopped engine.old.log engine.new.log (Q.budget questions.now) stop) }
 {
     let limits = copied(alloc, values)?;
@@ -95,7 +97,8 @@ pub fn ask_with<Q: Questions>(
     ensures main { IsOver (Q.setting questions.now) engine.new.log }
     ensures longer { IsLonger engine.old.log engine.new.log }
     ensures answer { MatchResult result
-        (λ reply. IsAnswer (Q.setting questions.now) engine.new.log (NoModelWith values.now prefix.now) reply)
+        (λ reply. IsAnswer (Q.setting questions.now) engine.new.log
+        (NoModelWith values.now prefix.now) reply)
         (λ stop. IsStopped engine.old.log engine.new.log (Q.budget questions.now) stop) }
 {
     let limits = copied(alloc, values)?;

@@ -1,6 +1,7 @@
 // The search, as its callers see it.
 
-ghost use Rattle.std.specs.Prelude.{◌≡◌, ◌<◌, ◌≤◌, ◌↔◌, false, [], length, map, All, IfOk, MatchResult, IsTrue};
+ghost use Rattle.std.specs.Prelude.{◌≡◌, ◌<◌, ◌≤◌, ◌↔◌, false, [], length, map, All, IfOk};
+ghost use Rattle.std.specs.Prelude.{MatchResult, IsTrue};
 ghost use Rattle.clause_store.specs.Lits.{sorted_clause};
 ghost use Rattle.solver_laws.specs.Ready.{IsLog};
 ghost use Rattle.cdcl_core.specs.Replies.{IsLonger};
@@ -11,7 +12,8 @@ ghost use Rattle.merge_model.specs.Merging.{HasModel};
 ghost use Rattle.distance_search.specs.Setting.{setting_of, IsOver};
 ghost use Rattle.distance_search.specs.AtHand.{AreAtHand};
 ghost use Rattle.distance_search.specs.Heard.{IsHalted};
-ghost use Rattle.distance_search.specs.Results.{IsConsistent, IsBestFor, IsBest, IsAway, IsJudged, IsConsistency, IsWith};
+ghost use Rattle.distance_search.specs.Results.{IsConsistent, IsBestFor, IsBest, IsAway, IsJudged};
+ghost use Rattle.distance_search.specs.Results.{IsConsistency, IsWith};
 
 use crate::answer::{Away, Best, Consistency, Entails};
 use crate::asking::Questions;
@@ -29,13 +31,13 @@ use merge_encoding::{Frame, Main, encode};
 use merge_model::Problem;
 use std::alloc::Global;
 
-/// Answers about a problem, each with the steps of a log that show it. Agents, queries and levels are
-/// counted from 0.
+/// Answers about a problem, each with the steps of a log that show it. Agents, queries and levels
+/// are counted from 0.
 ///
-/// A call that asks questions answers `GaveUp` where its last question learned as many steps as the budget
-/// allows, with the number of the first of them, and `NoMemory` for want of memory. Once a call has answered
-/// `NoMemory`, every later one does, and nothing changes. The log grows at its end alone, by steps
-/// that follow, also where a call has no answer.
+/// A call that asks questions answers `GaveUp` where its last question learned as many steps as the
+/// budget allows, with the number of the first of them, and `NoMemory` for want of memory. Once a
+/// call has answered `NoMemory`, every later one does, and nothing changes. The log grows at its
+/// end alone, by steps that follow, also where a call has no answer.
 #[derive(Drop)]
 pub struct Search<D: Counted + Drop, A: Levelled + Drop> {
     subject: Subject<D, A>,
@@ -45,17 +47,19 @@ pub struct Search<D: Counted + Drop, A: Levelled + Drop> {
     alloc: Global,
     ghost over: { IsOver (setting_of
         (D.dist subject.distance) (D.most subject.distance) (D.due subject.distance)
-        (A.rank subject.aggregator) (A.levels_of subject.aggregator) (A.levels_due subject.aggregator)
+        (A.rank subject.aggregator) (A.levels_of subject.aggregator)
+        (A.levels_due subject.aggregator)
         subject.problem) engine.log },
     ghost at_hand: { AreAtHand (setting_of
         (D.dist subject.distance) (D.most subject.distance) (D.due subject.distance)
-        (A.rank subject.aggregator) (A.levels_of subject.aggregator) (A.levels_due subject.aggregator)
+        (A.rank subject.aggregator) (A.levels_of subject.aggregator)
+        (A.levels_due subject.aggregator)
         subject.problem) engine.log pool.items },
 }
 
 impl<D: Counted + Drop, A: Levelled + Drop> Search<D, A> {
-    /// A search about a problem under a distance and an aggregator, with a log of no step, each of whose questions
-    /// learns at most `budget` steps; `NoMemory` for want of memory.
+    /// A search about a problem under a distance and an aggregator, with a log of no step, each of
+    /// whose questions learns at most `budget` steps; `NoMemory` for want of memory.
     pub fn new(
         alloc: Global,
         problem: Problem,
@@ -108,14 +112,15 @@ impl<D: Counted + Drop, A: Levelled + Drop> Search<D, A> {
     pub fn derivations(&self) -> &Derivations
         ensures log { result.now ≡ self.now.engine.log }
         ensures sound { IsLog self.now.engine.log }
-        ensures main { self.now.engine.log.main ≡ map sorted_clause (due_for (D.due self.now.subject.distance)
+        ensures main { self.now.engine.log.main ≡
+            map sorted_clause (due_for (D.due self.now.subject.distance)
             (A.levels_due self.now.subject.aggregator) self.now.subject.problem).clauses }
     {
         self.engine.derivations()
     }
 
-    /// A model of the constraint and of each base, or the step that shows that there is none. One question for
-    /// each.
+    /// A model of the constraint and of each base, or the step that shows that there is none. One
+    /// question for each.
     pub fn consistency(&mut self) -> Result<Consistency, SearchStop>
         ensures subject { self.new.subject ≡ self.old.subject }
         ensures longer { IsLonger self.old.engine.log self.new.engine.log }
@@ -123,7 +128,8 @@ impl<D: Counted + Drop, A: Levelled + Drop> Search<D, A> {
         ensures over { IsOver (⟦<Subject<D, A> as Questions>⟧.setting self.old.subject)
             self.new.engine.log }
         ensures answer { MatchResult result
-            (λ found. IsConsistency (⟦<Subject<D, A> as Questions>⟧.setting self.old.subject) self.new.engine.log found)
+            (λ found. IsConsistency
+            (⟦<Subject<D, A> as Questions>⟧.setting self.old.subject) self.new.engine.log found)
             (λ stop. IsHalted self.old.engine.log self.new.engine.log self.old.subject.budget stop) }
         ensures failed { IsTrue self.new.failed ↔ (result ≡ Err SearchStop.NoMemory) }
         ensures fails_on { IsTrue self.old.failed → result ≡ Err SearchStop.NoMemory }
@@ -138,8 +144,8 @@ impl<D: Counted + Drop, A: Levelled + Drop> Search<D, A> {
         outcome
     }
 
-    /// A closest model with its exact distances, their rank and their level values, and the steps that show them
-    /// least, where the constraint and each base have a model.
+    /// A closest model with its exact distances, their rank and their level values, and the steps
+    /// that show them least, where the constraint and each base have a model.
     pub fn best(&mut self) -> Result<Best, SearchStop>
         requires { IsConsistent (⟦<Subject<D, A> as Questions>⟧.setting self.old.subject) }
         ensures subject { self.new.subject ≡ self.old.subject }
@@ -163,8 +169,8 @@ impl<D: Counted + Drop, A: Levelled + Drop> Search<D, A> {
         outcome
     }
 
-    /// The exact distances of a valuation over the problem's atoms, and the steps that show them least, where each
-    /// base has a model.
+    /// The exact distances of a valuation over the problem's atoms, and the steps that show them
+    /// least, where each base has a model.
     pub fn distances_of(&mut self, model: Valuation) -> Result<Away, SearchStop>
         requires sized { length model ≡ length self.old.subject.problem.atoms }
         requires bases { All (HasModel (length self.old.subject.problem.atoms))
@@ -191,11 +197,12 @@ impl<D: Counted + Drop, A: Levelled + Drop> Search<D, A> {
         outcome
     }
 
-    /// Whether every closest model satisfies a query: the step that shows it, or a closest model that does not.
-    /// `best` is a best answer to this problem.
+    /// Whether every closest model satisfies a query: the step that shows it, or a closest model
+    /// that does not. `best` is a best answer to this problem.
     pub fn entails(&mut self, best: &Best, ask: usize) -> Result<Entails, SearchStop>
         requires ask { ask < length self.old.subject.problem.asks }
-        requires best { IsBestFor (⟦<Subject<D, A> as Questions>⟧.setting self.old.subject) best.now }
+        requires best { IsBestFor
+            (⟦<Subject<D, A> as Questions>⟧.setting self.old.subject) best.now }
         ensures subject { self.new.subject ≡ self.old.subject }
         ensures longer { IsLonger self.old.engine.log self.new.engine.log }
         ensures sound { IsLog self.new.engine.log }
@@ -225,15 +232,16 @@ impl<D: Counted + Drop, A: Levelled + Drop> Search<D, A> {
         outcome
     }
 
-    /// A closest model that begins with these values, or `None` exactly where there is none. `best` is a best answer
-    /// to this problem. One question.
+    /// A closest model that begins with these values, or `None` exactly where there is none. `best`
+    /// is a best answer to this problem. One question.
     pub fn closest_with(
         &mut self,
         best: &Best,
         prefix: &[bool],
     ) -> Result<Option<Valuation>, SearchStop>
         requires prefix { length prefix.now ≤ length self.old.subject.problem.atoms }
-        requires best { IsBestFor (⟦<Subject<D, A> as Questions>⟧.setting self.old.subject) best.now }
+        requires best { IsBestFor
+            (⟦<Subject<D, A> as Questions>⟧.setting self.old.subject) best.now }
         ensures subject { self.new.subject ≡ self.old.subject }
         ensures longer { IsLonger self.old.engine.log self.new.engine.log }
         ensures sound { IsLog self.new.engine.log }
@@ -295,8 +303,10 @@ impl<D: Counted + Drop, A: Levelled + Drop> Search<D, A> {
         ensures log { result.1 ≡ self.engine.log }
         ensures sound { IsLog self.engine.log }
         ensures over { IsOver (setting_of
-            (D.dist self.subject.distance) (D.most self.subject.distance) (D.due self.subject.distance)
-            (A.rank self.subject.aggregator) (A.levels_of self.subject.aggregator) (A.levels_due self.subject.aggregator)
+            (D.dist self.subject.distance) (D.most self.subject.distance)
+            (D.due self.subject.distance)
+            (A.rank self.subject.aggregator) (A.levels_of self.subject.aggregator)
+            (A.levels_due self.subject.aggregator)
             self.subject.problem) self.engine.log }
     {
         let Search {

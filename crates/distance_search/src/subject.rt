@@ -16,8 +16,8 @@ use merge_encoding::{Claim, Frame};
 use merge_model::{Problem, full_vector, measure};
 use std::alloc::Global;
 
-/// What a search is about: a problem, with a distance, an aggregator, the frame of its main clauses, and how many
-/// steps a question may learn.
+/// What a search is about: a problem, with a distance, an aggregator, the frame of its main
+/// clauses, and how many steps a question may learn.
 #[derive(Drop)]
 pub struct Subject<D: Counted + Drop, A: Levelled + Drop> {
     /// What is merged and asked.
@@ -31,7 +31,8 @@ pub struct Subject<D: Counted + Drop, A: Levelled + Drop> {
     /// How many steps a question may learn, at least 1.
     pub budget: u64,
     /// That the frame is that of the problem's main clauses.
-    pub ghost framed: { frame ≡ frame_of (due_for (D.due distance) (A.levels_due aggregator) problem) },
+    pub ghost framed: { frame ≡
+        frame_of (due_for (D.due distance) (A.levels_due aggregator) problem) },
     /// That a question may learn a step.
     pub ghost spends: { 1 ≤ budget },
 }
@@ -47,7 +48,8 @@ impl<D: Counted + Drop, A: Levelled + Drop> Questions for Subject<D, A> {
 
     ghost laws = { λ q. laws_of (D.dist q.distance) (D.most q.distance) (D.due q.distance)
         (A.rank q.aggregator) (A.levels_of q.aggregator) (A.levels_due q.aggregator)
-        (D.counts q.distance) (A.are_levels q.aggregator) (D.bounded q.distance) (D.within q.distance)
+        (D.counts q.distance) (A.are_levels q.aggregator) (D.bounded q.distance)
+        (D.within q.distance)
         (A.monotone q.aggregator) (A.in_order q.aggregator) q.problem };
 
     fn frame(&self) -> &Frame {
