@@ -47,7 +47,8 @@ pub fn lower_distance<Q: Questions>(
     ensures main { IsOver (Q.setting questions.now) engine.new.log }
     ensures longer { IsLonger engine.old.log engine.new.log }
     ensures answer { MatchResult result
-        (λ r. IsNearest (Q.setting questions.now) engine.new.log model agent r.distance r.valuation r.step)
+        (λ r. IsNearest
+        (Q.setting questions.now) engine.new.log model agent r.distance r.valuation r.step)
         (λ stop. IsHalted engine.old.log engine.new.log (Q.budget questions.now) stop) }
 {
     let mut valuation = start;

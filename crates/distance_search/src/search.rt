@@ -130,7 +130,8 @@ impl<D: Counted + Drop, A: Levelled + Drop> Search<D, A> {
         ensures answer { MatchResult result
             (λ found. IsConsistency
             (⟦<Subject<D, A> as Questions>⟧.setting self.old.subject) self.new.engine.log found)
-            (λ stop. IsHalted self.old.engine.log self.new.engine.log self.old.subject.budget stop) }
+            (λ stop. IsHalted
+            self.old.engine.log self.new.engine.log self.old.subject.budget stop) }
         ensures failed { IsTrue self.new.failed ↔ (result ≡ Err SearchStop.NoMemory) }
         ensures fails_on { IsTrue self.old.failed → result ≡ Err SearchStop.NoMemory }
         ensures stays { IsTrue self.old.failed → self.new.engine ≡ self.old.engine }
@@ -154,8 +155,10 @@ impl<D: Counted + Drop, A: Levelled + Drop> Search<D, A> {
         ensures over { IsOver (⟦<Subject<D, A> as Questions>⟧.setting self.old.subject)
             self.new.engine.log }
         ensures answer { MatchResult result
-            (λ best. IsBest (⟦<Subject<D, A> as Questions>⟧.setting self.old.subject) self.new.engine.log best)
-            (λ stop. IsHalted self.old.engine.log self.new.engine.log self.old.subject.budget stop) }
+            (λ best. IsBest
+            (⟦<Subject<D, A> as Questions>⟧.setting self.old.subject) self.new.engine.log best)
+            (λ stop. IsHalted
+            self.old.engine.log self.new.engine.log self.old.subject.budget stop) }
         ensures failed { IsTrue self.new.failed ↔ (result ≡ Err SearchStop.NoMemory) }
         ensures fails_on { IsTrue self.old.failed → result ≡ Err SearchStop.NoMemory }
         ensures stays { IsTrue self.old.failed → self.new.engine ≡ self.old.engine }
@@ -181,9 +184,11 @@ impl<D: Counted + Drop, A: Levelled + Drop> Search<D, A> {
         ensures over { IsOver (⟦<Subject<D, A> as Questions>⟧.setting self.old.subject)
             self.new.engine.log }
         ensures answer { MatchResult result
-            (λ away. IsAway (⟦<Subject<D, A> as Questions>⟧.setting self.old.subject) self.new.engine.log away
+            (λ away. IsAway
+            (⟦<Subject<D, A> as Questions>⟧.setting self.old.subject) self.new.engine.log away
             × (away.shown.model ≡ model))
-            (λ stop. IsHalted self.old.engine.log self.new.engine.log self.old.subject.budget stop) }
+            (λ stop. IsHalted
+            self.old.engine.log self.new.engine.log self.old.subject.budget stop) }
         ensures failed { IsTrue self.new.failed ↔ (result ≡ Err SearchStop.NoMemory) }
         ensures fails_on { IsTrue self.old.failed → result ≡ Err SearchStop.NoMemory }
         ensures stays { IsTrue self.old.failed → self.new.engine ≡ self.old.engine }
@@ -209,9 +214,11 @@ impl<D: Counted + Drop, A: Levelled + Drop> Search<D, A> {
         ensures over { IsOver (⟦<Subject<D, A> as Questions>⟧.setting self.old.subject)
             self.new.engine.log }
         ensures answer { MatchResult result
-            (λ judged. IsJudged (⟦<Subject<D, A> as Questions>⟧.setting self.old.subject) self.new.engine.log
+            (λ judged. IsJudged
+            (⟦<Subject<D, A> as Questions>⟧.setting self.old.subject) self.new.engine.log
             ask best.now.values judged)
-            (λ stop. IsHalted self.old.engine.log self.new.engine.log self.old.subject.budget stop) }
+            (λ stop. IsHalted
+            self.old.engine.log self.new.engine.log self.old.subject.budget stop) }
         ensures failed { IsTrue self.new.failed ↔ (result ≡ Err SearchStop.NoMemory) }
         ensures fails_on { IsTrue self.old.failed → result ≡ Err SearchStop.NoMemory }
         ensures stays { IsTrue self.old.failed → self.new.engine ≡ self.old.engine }
@@ -248,8 +255,10 @@ impl<D: Counted + Drop, A: Levelled + Drop> Search<D, A> {
         ensures over { IsOver (⟦<Subject<D, A> as Questions>⟧.setting self.old.subject)
             self.new.engine.log }
         ensures answer { MatchResult result
-            (λ found. IsWith (⟦<Subject<D, A> as Questions>⟧.setting self.old.subject) prefix.now found)
-            (λ stop. IsHalted self.old.engine.log self.new.engine.log self.old.subject.budget stop) }
+            (λ found. IsWith
+            (⟦<Subject<D, A> as Questions>⟧.setting self.old.subject) prefix.now found)
+            (λ stop. IsHalted
+            self.old.engine.log self.new.engine.log self.old.subject.budget stop) }
         ensures failed { IsTrue self.new.failed ↔ (result ≡ Err SearchStop.NoMemory) }
         ensures fails_on { IsTrue self.old.failed → result ≡ Err SearchStop.NoMemory }
         ensures stays { IsTrue self.old.failed → self.new.engine ≡ self.old.engine }
