@@ -51,8 +51,8 @@ pub trait Questions {
         ensures { IfOk result (λ ranked. ranked.items
             ≡ (setting self.now).rank (repeated (setting self.now).profile.times vector.now)) };
 
-    /// Puts questions whose answers prove nothing, so that the solver learns from them, and answers what the first
-    /// level may be at most to begin with; `NoMemory` for want of it.
+    /// Puts questions whose answers prove nothing, so that the solver learns from them, and
+    /// answers what the levels may be at most to begin with; `NoMemory` for want of memory.
     fn warm_up(&self, alloc: Global, engine: &mut Engine) -> Result<u32, NoMemory>
         ensures longer { IsLonger engine.old.log engine.new.log };
 

@@ -45,7 +45,8 @@ fn level_lengths(alloc: Global, levels: &[Unary]) -> Result<Vec<u32>, NoMemory>
 
 // The lengths of the levels, or a value where that is less.
 fn level_limits(alloc: Global, levels: &[Unary], most: u32) -> Result<Vec<u32>, NoMemory>
-    ensures { IfOk result (λ limits. limits.items ≡ map (λ level. min (length level) most) levels.now) }
+    ensures { IfOk result (λ limits. limits.items
+        ≡ map (λ level. min (length level) most) levels.now) }
 {
     let mut limits = Vec::new(alloc);
     for level in levels {

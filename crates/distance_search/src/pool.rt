@@ -92,8 +92,8 @@ pub fn best<Q: Questions>(
     Ok(found)
 }
 
-/// Whether every closest model satisfies a query; `best` is a best answer. A model at hand that does
-/// not answers without a question, and one that is found is at hand from then on.
+/// Whether every closest model satisfies a query; `best` is a best answer. A model at hand that
+/// does not answers without a question, and one that is found is at hand from then on.
 pub fn entails<Q: Questions>(
     alloc: Global,
     questions: &Q,
