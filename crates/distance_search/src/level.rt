@@ -14,8 +14,7 @@ use edge::NoMemory;
 use std::alloc::Global;
 use totalizer::Unary;
 
-/// A witness whose value at a level is least, and the step that shows it; no step where the value
-/// is 0.
+/// A witness whose value at a level is least, and the step that shows it; no step where the value is 0.
 #[derive(Drop)]
 pub struct Lowered {
     /// The witness.
@@ -46,8 +45,8 @@ fn level_lengths(alloc: Global, levels: &[Unary]) -> Result<Vec<u32>, NoMemory>
 
 // The lengths of the levels, or a value where that is less.
 fn level_limits(alloc: Global, levels: &[Unary], most: u32) -> Result<Vec<u32>, NoMemory>
-    ensures { IfOk result
-        (λ limits. limits.items ≡ map (λ level. min (length level) most) levels.now) }
+    ensures { IfOk result (λ limits. limits.items
+        ≡ map (λ level. min (length level) most) levels.now) }
 {
     let mut limits = Vec::new(alloc);
     for level in levels {
@@ -169,8 +168,7 @@ pub fn lower_all<Q: Questions>(
     ensures main { IsOver (Q.setting questions.now) engine.new.log }
     ensures longer { IsLonger engine.old.log engine.new.log }
     ensures answer { MatchResult result
-        (λ r. AreLowered (Q.setting questions.now) engine.new.log
-        (length (Q.setting questions.now).main.levels) r.witness r.steps.items)
+        (λ r. AreLowered (Q.setting questions.now) engine.new.log (length (Q.setting questions.now).main.levels) r.witness r.steps.items)
         (λ stop. IsHalted engine.old.log engine.new.log (Q.budget questions.now) stop) }
 {
     let mut witness = start;

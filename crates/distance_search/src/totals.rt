@@ -155,8 +155,7 @@ impl Totals {
         }
     }
 
-    /// The value of a total under an assignment: how many of its outputs are true, which come
-    /// first.
+    /// The value of a total under an assignment: how many of its outputs are true. They come first.
     fn value(&self, place: usize, assignment: &Assignment, vars: u32) -> u32
         requires place { place < length self.now.items.items }
         requires vars { length assignment.now ≡ vars }

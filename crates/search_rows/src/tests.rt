@@ -1,6 +1,6 @@
 // Searches about small problems.
 
-ghost use Rattle.std.specs.Prelude.{◌≡◌, ◌<◌, ◌≤◌, IfSome, length};
+ghost use Rattle.std.specs.Prelude.{◌≡◌, IfSome};
 ghost use Rattle.distance_search.specs.Results.{IsBestFor};
 
 use agent_copies::Counted;
