@@ -19,8 +19,8 @@ use std::alloc::Global;
 
 /// Questions on a problem, each of which puts one claim to the solver of its main clauses.
 ///
-/// Its meanings are `setting`, what the claims are about, and `budget`, how many steps a question may learn. The
-/// law, below the methods, says what the setting keeps.
+/// Its meanings are `setting`, what the claims are about, and `budget`, how many steps a question
+/// may learn. The law, below the methods, says what the setting keeps.
 pub trait Questions {
     /// What the claims are about.
     ghost setting: { Self → Setting };
@@ -56,8 +56,8 @@ pub trait Questions {
     fn warm_up(&self, alloc: Global, engine: &mut Engine) -> Result<u32, NoMemory>
         ensures longer { IsLonger engine.old.log engine.new.log };
 
-    /// Answers a claim: it is true, and a step of the log shows it, or valuations break it. `GaveUp` where the
-    /// budget was spent on it, and `NoMemory` for want of memory.
+    /// Answers a claim: it is true, and a step of the log shows it, or valuations break it.
+    /// `GaveUp` where the budget was spent on it, and `NoMemory` for want of memory.
     fn ask(&self, alloc: Global, engine: &mut Engine, claim: &Claim) -> Result<Reply, SearchStop>
         requires main { IsOver (setting self.now) engine.old.log }
         requires proper { IsAskable (setting self.now) (said claim.now) }

@@ -14,7 +14,8 @@ use edge::NoMemory;
 use std::alloc::Global;
 use totalizer::Unary;
 
-/// A witness whose value at a level is least, and the step that shows it; no step where the value is 0.
+/// A witness whose value at a level is least, and the step that shows it; no step where the value
+/// is 0.
 #[derive(Drop)]
 pub struct Lowered {
     /// The witness.
@@ -168,7 +169,9 @@ pub fn lower_all<Q: Questions>(
     ensures main { IsOver (Q.setting questions.now) engine.new.log }
     ensures longer { IsLonger engine.old.log engine.new.log }
     ensures answer { MatchResult result
-        (λ r. AreLowered (Q.setting questions.now) engine.new.log (length (Q.setting questions.now).main.levels) r.witness r.steps.items)
+        (λ r. AreLowered
+        (Q.setting questions.now) engine.new.log
+        (length (Q.setting questions.now).main.levels) r.witness r.steps.items)
         (λ stop. IsHalted engine.old.log engine.new.log (Q.budget questions.now) stop) }
 {
     let mut witness = start;
