@@ -3,7 +3,10 @@
 A block that begins with ```text NAME is a file that the reader saves under this name. In a block
 that begins with ```console each line after `$ ` is a command, and the lines up to the next command
 or the end are what it writes. All commands run in one folder, in turn, where ./hemovulish is the
-built program. Commands of `list` are left out where the program does not know it yet."""
+built program. Commands of `list` are left out where the program does not know it yet.
+
+    python3 tests/tutorial.py      writes into both what the built program writes now: read what
+                                   has changed before it is kept"""
 import os
 import re
 import shutil
@@ -90,3 +93,26 @@ def cases():
             if kind == "command"
         ]
     return found
+
+
+def write(path):
+    """Writes what the commands of a document write into it; what is left out stays."""
+    with open(path, encoding="utf-8") as file:
+        text = file.read()
+    folder = Folder(steps(text))
+    pairs = iter(list(zip(folder.wanted, folder.run())))
+
+    def filled(block):
+        shown = []
+        for _ in re.findall(r"^\$ ", block[1], re.MULTILINE):
+            (_, command, old), found = next(it for it in pairs if it[0][0] == "command")
+            shown.append("$ %s\n%s" % (command, old if found is None else found))
+        return "```console\n%s```" % "".join(shown)
+
+    with open(path, "w", encoding="utf-8") as file:
+        file.write(re.sub(r"^```console\n((?:.*\n)*?)```$", filled, text, flags=re.MULTILINE))
+
+
+if __name__ == "__main__":
+    for document in DOCUMENTS.values():
+        write(os.path.join(TOP, document))
