@@ -194,12 +194,12 @@ packed_keep all old from marks k count end begin lits ends next v p lt m e f =
     let pushed : take (count + 1) (set ends count v) ≡ take count ends ++ v ∷ [] = take_more_set ends count v (omega arith) in
     let ends_own : take (count + 1) (set ends count v) ≡ take count ends ++ (length (take end lits) + length (slice_range all begin next)) ∷ [] = pushed ∙ ap (λ (i : ℕ). take count ends ++ i ∷ []) (omega arith) in
     let cuts : cut 0 (take (count + 1) (set ends count v)) (take v (copy_within lits begin next end)) ≡ cut 0 (take count ends) (take end lits) ++ slice_range all begin next ∷ [] =
-        ap (λ (is : List ℕ). cut 0 is (take v (copy_within lits begin next end))) ends_own
-        ∙ ap (λ (zs : List Lit). cut 0 (take count ends ++ (length (take end lits) + length (slice_range all begin next)) ∷ []) zs) front_own
-        ∙ cut-push 0 (take count ends) (take end lits) (slice_range all begin next) (subst (λ (i : ℕ). Rise 0 (take count ends) i) (sym size_front) p.rise) in
+    ap (λ (is : List ℕ). cut 0 is (take v (copy_within lits begin next end))) ends_own
+    ∙ ap (λ (zs : List Lit). cut 0 (take count ends ++ (length (take end lits) + length (slice_range all begin next)) ∷ []) zs) front_own
+    ∙ cut-push 0 (take count ends) (take end lits) (slice_range all begin next) (subst (λ (i : ℕ). Rise 0 (take count ends) i) (sym size_front) p.rise) in
     let member : slice_get (drop from (cut 0 old all)) k ≡ Some (slice_range all begin next) =
-        get-drop from (cut 0 old all) k ∙ get-cut 0 old all (from + k) place
-        ∙ ap (λ (i : ℕ). Some (slice_range all i (get_or old (from + k) 0))) (sym p.at) ∙ ap (λ (i : ℕ). Some (slice_range all begin i)) (sym x.end) in
+    get-drop from (cut 0 old all) k ∙ get-cut 0 old all (from + k) place
+    ∙ ap (λ (i : ℕ). Some (slice_range all i (get_or old (from + k) 0))) (sym p.at) ∙ ap (λ (i : ℕ). Some (slice_range all begin i)) (sym x.end) in
     let more : k + 1 ≡ suc k = omega arith in
     let s : from + k + 1 ≡ from + (k + 1) = omega arith in
     let far : end + (next - begin) ≤ next = omega arith in record {

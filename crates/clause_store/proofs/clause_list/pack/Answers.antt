@@ -47,9 +47,9 @@ loop-k-preserved c =
           packed_at c.args.lits.now.items c.args.ends.now.items c.args.from c.args.marks.now _ _ _ _ _ _ _ _ _ _ _
           (packed_keep c.args.lits.now.items c.args.ends.now.items c.args.from c.args.marks.now c.loop-k.k c.loop-k.count c.loop-k.end c.loop-k.begin c.loop-k.lits.items c.loop-k.ends.items c.index.result.now (c.loop-k.end + (c.index.result.now - c.loop-k.begin)) c.loop-k.invariant c.loop-k-test.true w.if-mark.true c.index.ensures refl)
           w.count-is w.end-is w.begin-is (ap (λ v. v.items) w.lits-is ∙ w.copy_within.ensures.items) (ap (λ v. v.items) w.ends-is)
-        )
+          )
       | else-mark w ↦ (
           packed_at c.args.lits.now.items c.args.ends.now.items c.args.from c.args.marks.now _ _ _ _ _ _ _ _ _ _ _ (packed_skip c.args.lits.now.items c.args.ends.now.items c.args.from c.args.marks.now c.loop-k.k c.loop-k.count c.loop-k.end c.loop-k.begin c.loop-k.lits.items c.loop-k.ends.items c.index.result.now c.loop-k.invariant c.loop-k-test.true w.if-mark.false c.index.ensures)
           w.count-is w.end-is w.begin-is (ap (λ v. v.items) w.lits-is) (ap (λ v. v.items) w.ends-is)
-        )
+          )
     ]
