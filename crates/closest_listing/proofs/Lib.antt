@@ -1,3 +1,4 @@
 pub mod Ordered
 pub mod Known
 pub mod Listings
+pub mod ListLaws
