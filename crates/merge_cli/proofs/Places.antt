@@ -75,12 +75,6 @@ place_digits word TooLong h =
     let n : length (valuation_word v) ≡ length v = length-map v truth_digit in
     (let m : length word ≡ length (valuation_word v) = ap length same in omega (arith, n, m, h.2), subst (All IsTruthDigit) (sym same) (are_digits v))
 
--- a place takes one word at most
-pub few_words : (words : List (List ℕ)) (place : Place) → IsPlace words place → length words ≤ 1
-few_words words Start h = rw h (omega arith)
-few_words words (Above v) h = rw h.0 (omega arith)
-few_words words TooLong h = rw h.1 (omega arith)
-
 -- words say one place at most
 pub one_place : (words : List (List ℕ)) (p q : Place) → IsPlace words p → IsPlace words q → p ≡ q
 one_place words Start Start h k = refl

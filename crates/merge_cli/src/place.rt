@@ -1,6 +1,5 @@
 // Where a list begins.
-ghost use Rattle.std.specs.Prelude.{◌≡◌, ◌≢◌, ◌≤◌, ◌∷◌, [], Bool, List, IfSome, IfNone, All, IsTrue, ◌↔◌, drop, length, map};
-ghost use Rattle.formula_text.specs.ValuationWords.{valuation_word};
+ghost use Rattle.std.specs.Prelude.{◌≡◌, ◌≤◌, ◌∷◌, [], IfSome, IfNone, All, IsTrue, ◌↔◌, drop, length, map};
 
 use edge::Words;
 use formulas::Valuation;

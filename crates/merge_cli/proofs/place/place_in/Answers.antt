@@ -2,7 +2,7 @@ use Rattle.std.proofs.Common.{◌≡◌, ℕ, List, [], ◌∷◌, drop, length,
 use Rattle.std.specs.Prelude.{IfSome, IfNone}
 use Rattle.merge_cli.specs.declared.place.Place.{Place}
 use Rattle.merge_cli.specs.Places.{IsPlace}
-use Rattle.merge_cli.proofs.Places.{last_word, few_words}
+use Rattle.merge_cli.proofs.Places.{last_word}
 use Rattle.merge_cli.proofs.place.place_in.Goals as goal
 
 pub returns-in-5-clause-some : goal.returns-in-5-clause-some
