@@ -3,7 +3,11 @@
 
 mod laws;
 mod listing;
+mod lists;
+mod searching;
 mod stepping;
 
 pub use laws::listed_law;
 pub use listing::Listing;
+pub use lists::{ClosestList, list_next, text_of};
+pub use searching::{ListEnd, ListOutcome, list_closest};

@@ -1,5 +1,5 @@
 -- The rows of the table of answers are apart.
-use Rattle.std.proofs.Common.{◌≡◌, ◌≢◌, ℕ, List, length, arith, subst, sym, ap, refl, ◌∙◌}
+use Rattle.std.proofs.Common.{◌≡◌, ◌≢◌, ℕ, List, [], ◌∷◌, length, arith, subst, sym, ap, refl, ◌∙◌}
 use Rattle.std.specs.Prelude.{Option, slice_index, decimal}
 use Rattle.std.proofs.lemmas.Fmt.{decimal_injective}
 use Rattle.edge.specs.Streams.{Exceeds}
@@ -12,13 +12,19 @@ use Rattle.merge_model.specs.declared.operator.DistanceName.{DistanceName}
 use Rattle.merge_model.specs.declared.operator.AggregatorName.{AggregatorName}
 use Rattle.problem_reading.specs.declared.stop.TextFault.{TextFault}
 use Rattle.merge_cli.specs.declared.commands.Command.{Command}
+use Rattle.merge_cli.specs.declared.commands.Command.TheVariants as variants
 use Rattle.merge_cli.specs.declared.commands.Command.TheVariants.{Merge, Check}
-use Rattle.merge_cli.specs.Commands.{IsMerge, unstated, stated, merge_words, IsCommand, IsNoCommand, limit_of, Reads, ReadsProblem}
+use Rattle.merge_cli.specs.declared.place.Place.{Place}
+use Rattle.merge_cli.specs.Commands.{IsMerge, unstated, stated, merge_words, IsList, list_words, IsCommand, IsNoCommand, limit_of, Reads, ReadsProblem}
 use Rattle.merge_cli.specs.Check.{CheckAnswers, accepted, wrong}
+use Rattle.merge_cli.specs.List.{bad_after_text, bad_after, listed, lacking, spent}
 use Rattle.merge_cli.specs.Merge.{merged, inconsistent, gave_up}
 use Rattle.merge_cli.specs.Refusals.{refusal_text, too_long_text}
+use Rattle.merge_cli.specs.Places.{IsPlace}
 use Rattle.merge_cli.specs.Rows.{ReadAnswers, too_long, of_text, ProblemTextAnswers, refused, of_problem}
 use Rattle.merge_cli.specs.Answers.{ProblemAnswers, TextAnswers, CommandAnswers, Answers, refused_words, of_command, IsTooMuch}
+use Rattle.merge_cli.proofs.Listed.{list_lacks, list_lacks_none}
+use Rattle.merge_cli.proofs.Places.{one_place}
 use Rattle.merge_cli.proofs.Problems.{merge_lacks, merge_lacks_none}
 
 -- The commands, one case each.
@@ -26,26 +32,31 @@ use Rattle.merge_cli.proofs.Problems.{merge_lacks, merge_lacks_none}
 pub reads_text : (command : Command) → ReadsProblem command → Reads command
 reads_text (Merge d a b) reads = tt
 reads_text Check reads = tt
+reads_text (variants.List d a c p) reads = tt
 
 pub reading_row : (command : Command) (now : Option (List ℕ)) (read : List ℕ) (status : ℕ) (text : List ℕ) → Reads command
     → CommandAnswers command now read status text → ReadAnswers (limit_of command) (TextAnswers command) now read status text
 reading_row (Merge d a b) now read s text reads row = row
 reading_row Check now read s text reads row = row
+reading_row (variants.List d a c p) now read s text reads row = row
 
 pub text_row : (command : Command) (read : List ℕ) (status : ℕ) (text : List ℕ) → ReadsProblem command
     → TextAnswers command read status text → ProblemTextAnswers (ProblemAnswers command) read status text
 text_row (Merge d a b) read s text reads row = row
 text_row Check read s text reads row = absurd reads
+text_row (variants.List d a c p) read s text reads row = row
 
 pub lacks : (command : Command) (problem : Problem) (status : ℕ) (text : List ℕ) → ProblemAnswers command problem status text
     → status ≡ 8 → LacksModel (profile_of problem)
 lacks (Merge d a b) p s text row = merge_lacks _ p s text row
 lacks Check p s text row = absurd row
+lacks (variants.List d a c q) p s text row = list_lacks _ p s text row
 
 pub lacks_none : (command : Command) (problem : Problem) (status : ℕ) (text : List ℕ) → ProblemAnswers command problem status text
     → status ≡ 0 → LacksModel (profile_of problem) → ⊥
 lacks_none (Merge d a b) p s text row = merge_lacks_none _ p s text row
 lacks_none Check p s text row = absurd row
+lacks_none (variants.List d a c q) p s text row = list_lacks_none _ p s text row
 
 -- a status that a command answers: not that of refused words, and none that stops a run
 pub record IsOwn (status : ℕ) : Type 0 where
@@ -62,6 +73,14 @@ own_problem (Merge d a b) p s text (inconsistent status reports) =
 own_problem (Merge d a b) p s text (gave_up status reports) =
     record { not_words = λ e. omega arith; not_read = λ e. omega arith; not_written = λ e. omega arith; not_memory = λ e. omega arith }
 own_problem Check p s text row = absurd row
+own_problem (variants.List d a c q) p s text (bad_after misfits status said) =
+    record { not_words = λ e. omega arith; not_read = λ e. omega arith; not_written = λ e. omega arith; not_memory = λ e. omega arith }
+own_problem (variants.List d a c q) p s text (listed fits status lists) =
+    record { not_words = λ e. omega arith; not_read = λ e. omega arith; not_written = λ e. omega arith; not_memory = λ e. omega arith }
+own_problem (variants.List d a c q) p s text (lacking fits status reports) =
+    record { not_words = λ e. omega arith; not_read = λ e. omega arith; not_written = λ e. omega arith; not_memory = λ e. omega arith }
+own_problem (variants.List d a c q) p s text (spent fits status reports) =
+    record { not_words = λ e. omega arith; not_read = λ e. omega arith; not_written = λ e. omega arith; not_memory = λ e. omega arith }
 
 own_checked : (read : List ℕ) (status : ℕ) (text : List ℕ) → CheckAnswers read status text → IsOwn status
 own_checked read s text (accepted k is true status said) =
@@ -76,6 +95,13 @@ not_refused (Merge d a b) p s text (merged status reports) one = absurd (omega a
 not_refused (Merge d a b) p s text (inconsistent status reports) one = absurd (omega arith)
 not_refused (Merge d a b) p s text (gave_up status reports) one = absurd (omega arith)
 not_refused Check p s text row one = absurd row
+not_refused (variants.List d a c q) p s text (bad_after misfits status said) one = (
+  (λ same. let at : 98 ≡ 116 = ap (λ (t : List ℕ). slice_index t 9) (sym said ∙ same) in omega (arith, at)),
+  (λ fault same. let at : 58 ≡ 32 = ap (λ (t : List ℕ). slice_index t 7) (sym said ∙ same) in omega (arith, at)),
+)
+not_refused (variants.List d a c q) p s text (listed fits status lists) one = absurd (omega arith)
+not_refused (variants.List d a c q) p s text (lacking fits status reports) one = absurd (omega arith)
+not_refused (variants.List d a c q) p s text (spent fits status reports) one = absurd (omega arith)
 
 own_refusal : (status : ℕ) → status ≡ 1 → IsOwn status
 own_refusal s one = record { not_words = λ e. omega arith; not_read = λ e. omega arith; not_written = λ e. omega arith; not_memory = λ e. omega arith }
@@ -87,6 +113,7 @@ own_problem_text command read s text (of_problem p spelled row) = own_problem co
 own_text : (command : Command) (read : List ℕ) (status : ℕ) (text : List ℕ) → TextAnswers command read status text → IsOwn status
 own_text (Merge d a b) read s text row = own_problem_text (Merge d a b) read s text row
 own_text Check read s text row = own_checked read s text row
+own_text (variants.List d a c p) read s text row = own_problem_text (variants.List d a c p) read s text row
 
 own_reading : (command : Command) (now : Option (List ℕ)) (read : List ℕ) (status : ℕ) (text : List ℕ)
     → ReadAnswers (limit_of command) (TextAnswers command) now read status text → IsOwn status
@@ -96,6 +123,7 @@ own_reading command now read s text (of_text end few row) = own_text command rea
 own_command : (command : Command) (now : Option (List ℕ)) (read : List ℕ) (status : ℕ) (text : List ℕ) → CommandAnswers command now read status text → IsOwn status
 own_command (Merge d a b) now read s text row = own_reading (Merge d a b) now read s text row
 own_command Check now read s text row = own_reading Check now read s text row
+own_command (variants.List d a c p) now read s text row = own_reading (variants.List d a c p) now read s text row
 
 -- a refusal that names a line is another text than `too long`
 pub names_a_line : (fault : TextFault) → too_long_text ≢ refusal_text fault
@@ -107,6 +135,8 @@ not_long (Merge d a b) read s text (refused fault first status said) one = λ sa
 not_long (Merge d a b) read s text (of_problem p spelled row) one = (not_refused (Merge d a b) p s text row one).0
 not_long Check read s text (accepted k is true status said) one = absurd (omega arith)
 not_long Check read s text (wrong line k is status said) one = absurd (omega arith)
+not_long (variants.List d a c q) read s text (refused fault first status said) one = λ says. names_a_line fault (sym says ∙ said)
+not_long (variants.List d a c q) read s text (of_problem p spelled row) one = (not_refused (variants.List d a c q) p s text row one).0
 
 pub refused_comes : (words : List (List ℕ)) (now : Option (List ℕ)) (read : List ℕ) (status : ℕ) (text : List ℕ)
     → Answers words now read status text → IsNoCommand words → status ≡ 2
@@ -134,12 +164,15 @@ too_long_command : (command : Command) (now : Option (List ℕ)) (read : List �
     → CommandAnswers command now read status text → status ≡ 1 → text ≡ too_long_text → Exceeds (limit_of command) (length read)
 too_long_command (Merge d a b) now read s text row = too_long_reading (Merge d a b) now read s text row
 too_long_command Check now read s text row = too_long_reading Check now read s text row
+too_long_command (variants.List d a c p) now read s text row = too_long_reading (variants.List d a c p) now read s text row
 
 long_command : (command : Command) (now : Option (List ℕ)) (read : List ℕ) (status : ℕ) (text : List ℕ)
     → CommandAnswers command now read status text → Exceeds (limit_of command) (length read) → (status ≡ 1) × (text ≡ too_long_text)
 long_command (Merge d a b) now read s text (too_long long status said) longer = (status, said)
 long_command (Merge d a b) now read s text (of_text end few row) longer = absurd (few longer)
 long_command Check now read s text row longer = absurd longer
+long_command (variants.List d a c p) now read s text (too_long long status said) longer = (status, said)
+long_command (variants.List d a c p) now read s text (of_text end few row) longer = absurd (few longer)
 
 pub too_long_only : (words : List (List ℕ)) (now : Option (List ℕ)) (read : List ℕ) (status : ℕ) (text : List ℕ)
     → Answers words now read status text → status ≡ 1 → text ≡ too_long_text → IsTooMuch words (length read)
@@ -173,10 +206,41 @@ merge_is_no_check words d a b (unstated is usual) check =
 merge_is_no_check words d a b (stated is few) check =
     let four : 4 ≡ 1 = ap (λ (ws : List (List ℕ)). length ws) (sym is ∙ check) in omega (arith, four)
 
+one_list : (words : List (List ℕ)) (d e : DistanceName) (a f : AggregatorName) (b c : ℕ) (p q : Place) → IsList words d a b p → IsList words e f c q
+    → variants.List d a b p ≡ variants.List e f c q
+one_list words d e a f b c p q h k =
+    let same : list_words d a b h.last ≡ list_words e f c k.last = sym h.spelled ∙ k.spelled in
+    let distance : distance_word d ≡ distance_word e = cc in
+    let aggregator : aggregator_word a ≡ aggregator_word f = cc in
+    let number : decimal b ≡ decimal c = cc in
+    let last : h.last ≡ k.last = cc in
+    let begins = subst (λ (ws : List (List ℕ)). IsPlace ws p) last h.begins in
+    let some = h.some in
+    let other = k.some in
+    ap (λ (n : DistanceName). variants.List n a b p) (one_distance d e distance) ∙ ap (λ (n : AggregatorName). variants.List e n b p) (one_aggregator a f aggregator)
+    ∙ ap (λ (n : ℕ). variants.List e f n p) (decimal_injective b c (omega (arith, some.1)) (omega (arith, other.1)) number)
+    ∙ ap (λ (n : Place). variants.List e f c n) (one_place k.last p q begins k.begins)
+
+-- the words of commands of two kinds begin with others
+begin_apart : (words first : List (List ℕ)) (b c : List ℕ) (second : List (List ℕ)) → words ≡ b ∷ first → words ≡ c ∷ second → length b ≢ length c → ⊥
+begin_apart words first b c second h k apart = let same : b ≡ c = (let whole : b ∷ first ≡ c ∷ second = sym h ∙ k in cc) in apart (ap length same)
+
+list_is_no_merge : (words : List (List ℕ)) (d e : DistanceName) (a f : AggregatorName) (b c : ℕ) (p : Place) → IsList words d a b p → IsMerge words e f c → ⊥
+list_is_no_merge words d e a f b c p h (unstated is usual) = begin_apart words _ _ _ _ h.spelled is (λ same. let n : 4 ≡ 5 = same in omega (arith, n))
+list_is_no_merge words d e a f b c p h (stated is few) = begin_apart words _ _ _ _ h.spelled is (λ same. let n : 4 ≡ 5 = same in omega (arith, n))
+
+list_is_no_check : (words : List (List ℕ)) (d : DistanceName) (a : AggregatorName) (b : ℕ) (p : Place) → IsList words d a b p → IsCommand words Check → ⊥
+list_is_no_check words d a b p h check = begin_apart words _ _ _ _ h.spelled check (λ same. let n : 4 ≡ 5 = same in omega (arith, n))
+
 one_command : (words : List (List ℕ)) (command other : Command) → IsCommand words command → IsCommand words other → command ≡ other
 one_command words (Merge d a b) (Merge e f c) of of_other = one_merge words d e a f b c of of_other
 one_command words (Merge d a b) Check of of_other = absurd (merge_is_no_check words d a b of of_other)
 one_command words Check (Merge e f c) of of_other = absurd (merge_is_no_check words e f c of_other of)
+one_command words (variants.List d a b p) (variants.List e f c q) of of_other = one_list words d e a f b c p q of of_other
+one_command words (variants.List d a b p) (Merge e f c) of of_other = absurd (list_is_no_merge words d e a f b c p of of_other)
+one_command words (Merge d a b) (variants.List e f c q) of of_other = absurd (list_is_no_merge words e d f a c b q of_other of)
+one_command words (variants.List d a b p) Check of of_other = absurd (list_is_no_check words d a b p of of_other)
+one_command words Check (variants.List e f c q) of of_other = absurd (list_is_no_check words e f c q of_other of)
 one_command words Check Check of of_other = refl
 
 -- the row of the table that a run of this command has

@@ -1,5 +1,9 @@
 pub mod OneKind
+pub mod OneList
 pub mod Laws
+pub mod ListWords
+pub mod Listed
+pub mod Places
 pub mod Problems
 pub mod Replies
 pub mod Reported

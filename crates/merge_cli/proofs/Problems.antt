@@ -58,17 +58,20 @@ same_asked : (d e : DistanceName) (a f : AggregatorName) (b c : ℕ) → d ≡ e
 same_asked d e a f b c distance aggregator conflicts =
     ap (λ (n : DistanceName). asked_by n a b) distance ∙ ap (λ (n : AggregatorName). asked_by e n b) aggregator ∙ ap (λ (n : ℕ). asked_by e f n) conflicts
 
-pub merge_answered : (distance : DistanceName) (aggregator : AggregatorName) (conflicts : ℕ) (problem : Problem) (report : Report) (status : ℕ) (text : List ℕ)
+pub merge_answered : {E : Type 0} (distance : DistanceName) (aggregator : AggregatorName) (conflicts : ℕ) (problem : Problem) (report : Report) (result : Result Reply E)
     → report.distance ≡ distance → report.aggregator ≡ aggregator → report.conflicts ≡ conflicts → report.problem ≡ problem
     → HasForm (asked_in report) (parts_in report) → IsBorneOutBy (asked_in report) (parts_in report) report.answer → IsTruthfulBy report report.answer
-    → status ≡ status_of report.answer → text ≡ report_text (asked_in report) (parts_in report)
-    → MergeAnswers (record { distance = distance; aggregator = aggregator; conflicts = conflicts }) problem status text
+    → IfOk result (λ reply. reply.status ≡ status_of report.answer) → IfOk result (λ reply. reply.text.items ≡ report_text (asked_in report) (parts_in report))
+    → IfOk result (λ reply. MergeAnswers (record { distance = distance; aggregator = aggregator; conflicts = conflicts }) problem reply.status reply.text.items)
 unfolding asked_by
-merge_answered d a b p report s t distance aggregator conflicts problem form borne_out truth status text =
+merge_answered d a b p report (Ok reply) distance aggregator conflicts problem form borne_out truth status text =
+    let s = reply.status in
+    let t = reply.text.items in
     let P : Asked → Type 0 = λ asked. MergeAnswers asked p s t in
     let Q : Problem → Type 0 = λ q. MergeAnswers (asked_in report) q s t in
     subst P (same_asked report.distance d report.aggregator a report.conflicts b distance aggregator conflicts)
     (subst Q problem (answered_by report report.answer s t form borne_out truth status text))
+merge_answered d a b p report (Err stop) distance aggregator conflicts problem form borne_out truth status text = tt
 
 -- a text that spells a problem is answered as the problem is, and another by its first fault
 module _ {E : Type 0} (answers : Problem → ℕ → List ℕ → Type 0) (read : List ℕ) where
@@ -86,7 +89,7 @@ module _ {E : Type 0} (answers : Problem → ℕ → List ℕ → Type 0) (read 
   stop_answered stop (Err refusal) is says = tt
 
 -- a problem that is said to lack a model lacks one, and one that is merged lacks none
-named_has : (problem : Problem) (answer : Answer) → IsNamed problem answer → LacksModel (profile_of problem)
+pub named_has : (problem : Problem) (answer : Answer) → IsNamed problem answer → LacksModel (profile_of problem)
 named_has p (Merged best measure verdicts) named = absurd named
 named_has p (Inconsistent constraint agents) named = names_lack (profile_of p) constraint agents named
 named_has p GaveUp named = absurd named

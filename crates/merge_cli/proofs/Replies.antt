@@ -5,7 +5,10 @@ use Rattle.merge_model.specs.declared.operator.DistanceName.{DistanceName}
 use Rattle.merge_model.specs.declared.operator.AggregatorName.{AggregatorName}
 use Rattle.merge_model.specs.declared.problem.Problem.{Problem}
 use Rattle.merge_cli.specs.declared.commands.Command.{Command}
+use Rattle.merge_cli.specs.declared.commands.Command.TheVariants as variants
 use Rattle.merge_cli.specs.declared.commands.Command.TheVariants.{Merge, Check}
+use Rattle.merge_cli.specs.declared.place.Place.{Place}
+use Rattle.merge_cli.specs.List.{ListAnswers}
 use Rattle.merge_cli.specs.declared.reply.Reply.{Reply}
 use Rattle.report_lines.specs.declared.kinds.Kind.{Kind}
 use Rattle.report_lines.specs.Judged.{IsAccepted}
@@ -36,12 +39,30 @@ answered_by_merge command distance aggregator conflicts problem result is row =
     let P : Command → Type 0 = λ c. IfOk result (λ reply. ProblemAnswers c problem reply.status reply.text.items) in
     subst P (sym is) row
 
+-- so is that of a list
+pub answered_by_list : {E : Type 0} (command : Command) (distance : DistanceName) (aggregator : AggregatorName) (count : ℕ) (place : Place) (problem : Problem) (result : Result Reply E)
+    → command ≡ variants.List distance aggregator count place
+    → IfOk result (λ reply. ListAnswers (record { distance = distance; aggregator = aggregator; count = count; place = place }) problem reply.status reply.text.items)
+    → IfOk result (λ reply. ProblemAnswers command problem reply.status reply.text.items)
+answered_by_list command distance aggregator count place problem result is row =
+    let P : Command → Type 0 = λ c. IfOk result (λ reply. ProblemAnswers c problem reply.status reply.text.items) in
+    subst P (sym is) row
+
 -- the reply to a problem text is one to the text, and so is that of a check
 pub answered_by_text : {E : Type 0} (command : Command) (distance : DistanceName) (aggregator : AggregatorName) (conflicts : ℕ) (read : List ℕ) (result : Result Reply E)
     → command ≡ Merge distance aggregator conflicts
     → IfOk result (λ reply. ProblemTextAnswers (ProblemAnswers command) read reply.status reply.text.items)
     → IfOk result (λ reply. TextAnswers command read reply.status reply.text.items)
 answered_by_text command distance aggregator conflicts read result is =
+    let P : Command → Type 0 = λ c. IfOk result (λ reply. ProblemTextAnswers (ProblemAnswers c) read reply.status reply.text.items)
+    → IfOk result (λ reply. TextAnswers c read reply.status reply.text.items) in
+    subst P (sym is) (λ row. row)
+
+pub answered_by_list_text : {E : Type 0} (command : Command) (distance : DistanceName) (aggregator : AggregatorName) (count : ℕ) (place : Place) (read : List ℕ) (result : Result Reply E)
+    → command ≡ variants.List distance aggregator count place
+    → IfOk result (λ reply. ProblemTextAnswers (ProblemAnswers command) read reply.status reply.text.items)
+    → IfOk result (λ reply. TextAnswers command read reply.status reply.text.items)
+answered_by_list_text command distance aggregator count place read result is =
     let P : Command → Type 0 = λ c. IfOk result (λ reply. ProblemTextAnswers (ProblemAnswers c) read reply.status reply.text.items)
     → IfOk result (λ reply. TextAnswers c read reply.status reply.text.items) in
     subst P (sym is) (λ row. row)

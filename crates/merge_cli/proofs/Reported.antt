@@ -10,6 +10,7 @@ use Rattle.report_lines.specs.Judged.{IsAccepted}
 use Rattle.report_lines.specs.Parts.{Asked, kind_of_answer}
 use Rattle.report_lines.specs.Places.{end_number}
 use Rattle.report_text.proofs.WrittenWhole.{accepted_law, spent_law}
+use Rattle.merge_cli.specs.List.{Listing, ListAnswers, reported_by, bad_after, listed, lacking, spent}
 use Rattle.merge_cli.specs.Merge.{MergeAnswers, merged, inconsistent, gave_up}
 
 module _ (dist : List Bool → List Bool → ℕ) (rank : List ℕ → List ℕ) (problem : Problem) where
@@ -37,6 +38,19 @@ row_accepted asked p s text kind.Merged (inconsistent status reports) is = absur
 row_accepted asked p s text kind.Spent (inconsistent status reports) is = absurd (omega arith)
 row_accepted asked p s text kind.Merged (gave_up status reports) is = absurd (omega arith)
 row_accepted asked p s text kind.Inconsistent (gave_up status reports) is = absurd (omega arith)
+
+-- so is what `list` reports, which is no merge
+pub list_accepted : (asked : Listing) (problem : Problem) (status : ℕ) (text : List ℕ) (k : Kind) → k ≢ kind.Merged → ListAnswers asked problem status text → status ≡ end_number k
+    → IsAccepted text k
+list_accepted asked p s text kind.Merged other row is = absurd (other refl)
+list_accepted asked p s text kind.Inconsistent other (lacking fits status reports) is = row_accepted (reported_by asked) p s text kind.Inconsistent (inconsistent status reports) is
+list_accepted asked p s text kind.Spent other (spent fits status reports) is = row_accepted (reported_by asked) p s text kind.Spent (gave_up status reports) is
+list_accepted asked p s text kind.Inconsistent other (bad_after misfits status said) is = absurd (omega arith)
+list_accepted asked p s text kind.Inconsistent other (listed fits status lists) is = absurd (omega arith)
+list_accepted asked p s text kind.Inconsistent other (spent fits status reports) is = absurd (omega arith)
+list_accepted asked p s text kind.Spent other (bad_after misfits status said) is = absurd (omega arith)
+list_accepted asked p s text kind.Spent other (listed fits status lists) is = absurd (omega arith)
+list_accepted asked p s text kind.Spent other (lacking fits status reports) is = absurd (omega arith)
 
 -- no report has another status
 pub record IsReported (status : ℕ) : Type 0 where

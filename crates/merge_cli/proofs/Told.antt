@@ -10,6 +10,7 @@ use Rattle.problem_reading.specs.declared.stop.TextFault.{TextFault}
 use Rattle.problem_reading.specs.Spelling.{Spelled, FirstFault}
 use Rattle.problem_laws.proofs.TextLaws.{spelled_or_faulty}
 use Rattle.report_lines.specs.declared.kinds.Kind.{Kind}
+use Rattle.report_lines.specs.declared.kinds.Kind.TheVariants as kind
 use Rattle.report_lines.specs.declared.kinds.RefusedKind.{RefusedKind}
 use Rattle.report_lines.specs.Judged.{IsAccepted, IsFirstWrong}
 use Rattle.report_lines.specs.Parts.{Asked}
@@ -18,16 +19,18 @@ use Rattle.report_lines.proofs.NeverBoth.{never}
 use Rattle.report_lines.proofs.Once.{once}
 use Rattle.merge_cli.specs.declared.commands.Command.{Command}
 use Rattle.merge_cli.specs.declared.commands.Command.TheVariants.{Check}
-use Rattle.merge_cli.specs.Commands.{IsCommand, IsNoCommand, merge_of, limit_of, Reads, ReadsProblem}
+use Rattle.merge_cli.specs.Commands.{usual_conflicts, IsCommand, IsNoCommand, merge_of, limit_of, Reads, ReadsProblem}
 use Rattle.report_text.specs.Accepting.{IsBorneOutText}
 use Rattle.merge_cli.specs.Check.{accepted_text, wrong_line_text, CheckAnswers, accepted, wrong}
 use Rattle.merge_cli.specs.Merge.{MergeAnswers, ReportsMerge, ReportsLack, ReportsSpent, main_vars, merged, inconsistent, gave_up}
+use Rattle.merge_cli.specs.List.{Listing, ListAnswers, Lists, list_of, reported_by, bad_after_text, bad_after, listed, lacking, spent}
+use Rattle.merge_cli.specs.Places.{IsPlaceOf}
 use Rattle.merge_cli.specs.Refusals.{refusal_text, too_long_text}
 use Rattle.merge_cli.specs.Rows.{ReadAnswers, too_long, of_text, refused, of_problem}
 use Rattle.merge_cli.specs.Answers.{ProblemAnswers, TextAnswers, Answers, Answered, IsTooMuch, AsksText, AsksProblem, AsksCheck}
 use Rattle.merge_cli.proofs.Laws.{reads_text, reading_row, text_row, lacks, lacks_none, not_refused, refused_comes, refused_only, too_long_comes, too_long_only, names_a_line, row_of}
 use Rattle.merge_cli.proofs.OneKind.{one_kind, same_kind}
-use Rattle.merge_cli.proofs.Reported.{row_accepted, is_reported}
+use Rattle.merge_cli.proofs.Reported.{row_accepted, list_accepted, is_reported}
 use Rattle.merge_cli.proofs.SameProblems.{equal_problems, equal_refusals}
 
 exceeds_more : (limit : Option ℕ) (m n : ℕ) → m ≤ n → Exceeds limit m → Exceeds limit n
@@ -79,6 +82,35 @@ spent_row : (asked : Asked) (problem : Problem) (status : ℕ) (text : List ℕ)
 spent_row asked p s text (merged status reports) three = absurd (omega arith)
 spent_row asked p s text (inconsistent status reports) three = absurd (omega arith)
 spent_row asked p s text (gave_up status reports) three = reports
+
+-- what `list` answers with each of its statuses
+listed_row : (asked : Listing) (problem : Problem) (status : ℕ) (text : List ℕ) → ListAnswers asked problem status text → status ≡ 0 → Lists asked problem text
+listed_row asked p s text (bad_after misfits status said) none = absurd (omega arith)
+listed_row asked p s text (listed fits status lists) none = lists
+listed_row asked p s text (lacking fits status reports) none = absurd (omega arith)
+listed_row asked p s text (spent fits status reports) none = absurd (omega arith)
+
+list_lacking_row : (asked : Listing) (problem : Problem) (status : ℕ) (text : List ℕ) → ListAnswers asked problem status text → status ≡ 8
+    → ReportsLack (reported_by asked) problem text
+list_lacking_row asked p s text (bad_after misfits status said) eight = absurd (omega arith)
+list_lacking_row asked p s text (listed fits status lists) eight = absurd (omega arith)
+list_lacking_row asked p s text (lacking fits status reports) eight = reports
+list_lacking_row asked p s text (spent fits status reports) eight = absurd (omega arith)
+
+list_spent_row : (asked : Listing) (problem : Problem) (status : ℕ) (text : List ℕ) → ListAnswers asked problem status text → status ≡ 3
+    → ReportsSpent (reported_by asked) problem text
+list_spent_row asked p s text (bad_after misfits status said) three = absurd (omega arith)
+list_spent_row asked p s text (listed fits status lists) three = absurd (omega arith)
+list_spent_row asked p s text (lacking fits status reports) three = absurd (omega arith)
+list_spent_row asked p s text (spent fits status reports) three = reports
+
+-- a place is refused exactly where it is none of the problem
+misfit_row : (asked : Listing) (problem : Problem) (status : ℕ) (text : List ℕ) → ListAnswers asked problem status text
+    → ((status ≡ 1) × (text ≡ bad_after_text)) ↔ (IsPlaceOf problem asked.place → ⊥)
+misfit_row asked p s text (bad_after misfits status said) = ((λ h. misfits), (λ h. (status, said)))
+misfit_row asked p s text (listed fits status lists) = ((λ h. absurd (let one = h.0 in omega arith)), (λ misfits. absurd (misfits fits)))
+misfit_row asked p s text (lacking fits status reports) = ((λ h. absurd (let one = h.0 in omega arith)), (λ misfits. absurd (misfits fits)))
+misfit_row asked p s text (spent fits status reports) = ((λ h. absurd (let one = h.0 in omega arith)), (λ misfits. absurd (misfits fits)))
 
 -- the row of what was read that is neither too long nor has a fault
 problem_of_row : (command : Command) (now : Option (List ℕ)) (read : List ℕ) (status : ℕ) (text : List ℕ) → ReadsProblem command
@@ -240,3 +272,30 @@ module _ (words : List (List ℕ)) (before now : Option (List ℕ)) (room_before
   pub refused_report_run : (bytes : List ℕ) → AsksCheck before words bytes → (line : ℕ) (k : RefusedKind) → IsFirstWrong bytes line k
       → (status ≡ 7) × (text ≡ wrong_line_text line k)
   refused_report_run bytes asks line k first = wrong_row bytes status text line k (told_check_run bytes asks) first
+
+  pub listed_run : (asked : Listing) (problem : Problem) → AsksProblem before words (list_of asked) problem → status ≡ 0 → Lists asked problem text
+  listed_run asked problem asks none = listed_row asked problem status text (asked_row (list_of asked) problem asks (λ one. omega arith)) none
+
+  pub list_lacks_run : (asked : Listing) (problem : Problem) → AsksProblem before words (list_of asked) problem → status ≡ 8 → ReportsLack (reported_by asked) problem text
+  list_lacks_run asked problem asks eight = list_lacking_row asked problem status text (asked_row (list_of asked) problem asks (λ one. omega arith)) eight
+
+  pub list_gave_up_run : (asked : Listing) (problem : Problem) → AsksProblem before words (list_of asked) problem → status ≡ 3 → ReportsSpent (reported_by asked) problem text
+  list_gave_up_run asked problem asks three = list_spent_row asked problem status text (asked_row (list_of asked) problem asks (λ one. omega arith)) three
+
+  pub list_ample_run : (asked : Listing) (problem : Problem) → AsksProblem before words (list_of asked) problem
+      → 3 ^ main_vars (reported_by asked) problem ≤ usual_conflicts → status ≢ 3
+  list_ample_run asked problem asks ample = λ three. let reports = list_gave_up_run asked problem asks three in omega (arith, reports.few, ample)
+
+  pub bad_after_run : (asked : Listing) (bytes : List ℕ) → AsksText before words (list_of asked) bytes → (problem : Problem) → Spelled bytes problem
+      → ¬ (Exceeds (limit_of (list_of asked)) (length bytes)) → ((status ≡ 1) × (text ≡ bad_after_text)) ↔ (IsPlaceOf problem asked.place → ⊥)
+  bad_after_run asked bytes asks problem spelled few = misfit_row asked problem status text (problem_run (list_of asked) bytes asks problem spelled few)
+
+  pub reported_list_run : (asked : Listing) → IsCommand words (list_of asked) → status ≢ 1 → (problem : Problem) × ListAnswers asked problem status text
+  reported_list_run asked of other =
+      problem_of_row (list_of asked) now answered.read status text tt
+      (reading_row (list_of asked) now answered.read status text tt (row_of words (list_of asked) now answered.read status text of answered.answers)) other
+
+  pub accepted_list_run : (asked : Listing) (k : Kind) → k ≢ kind.Merged → IsCommand words (list_of asked) → status ≡ end_number k → IsAccepted text k
+  accepted_list_run asked k other of is =
+      let reports = reported_list_run asked of (is_reported k status is).not_refused in
+      list_accepted asked reports.0 status text k other reports.1 is

@@ -1,7 +1,9 @@
 pub mod Answers
 pub mod Check
 pub mod Commands
+pub mod List
 pub mod Merge
+pub mod Places
 pub mod Refusals
 pub mod Rows
 pub use Rattle.edge.specs.Faults

@@ -6,6 +6,7 @@ ghost use Rattle.merge_cli.specs.Rows.{ProblemTextAnswers};
 
 use crate::checking::check_reply;
 use crate::commands::Command;
+use crate::listing::list_reply;
 use crate::merging::merge_reply;
 use crate::refusal::refusal;
 use crate::reply::Reply;
@@ -23,6 +24,7 @@ pub fn text_reply(alloc: Global, command: Command, bytes: &[u8]) -> Result<Reply
     match command {
         Command::Merge(..) => problem_text_reply(alloc, command, bytes),
         Command::Check => check_reply(alloc, bytes),
+        Command::List { .. } => problem_text_reply(alloc, command, bytes),
     }
 }
 
@@ -50,6 +52,12 @@ fn problem_reply(alloc: Global, command: Command, problem: Problem) -> Result<Re
         Command::Merge(distance, aggregator, conflicts) => {
             merge_reply(alloc, distance, aggregator, conflicts, problem)
         }
+        Command::List {
+            distance,
+            aggregator,
+            count,
+            place,
+        } => list_reply(alloc, distance, aggregator, count, place, problem),
         Command::Check => unreachable!(),
     }
 }

@@ -1,27 +1,42 @@
-ghost use Rattle.std.specs.Prelude.{◌≡◌, ◌≢◌, ℕ, IfSome, IfNone, decimal};
+ghost use Rattle.std.specs.Prelude.{◌≡◌, ◌≢◌, ℕ, Some, IfSome, IfNone, codes, decimal, slice_get};
 
+use crate::place::{Place, place_in};
 use edge::Words;
 use merge_model::{AggregatorName, DistanceName};
 use report_lines::CONFLICT_LIMIT;
 use report_words::number_of;
 
 /// What the words of a command line ask for.
-#[derive(Clone, Copy, Debug, PartialEq, Eq)]
+#[derive(Debug, Drop, PartialEq, Eq)]
 pub enum Command {
     /// `merge D A CONFLICTS`: merges the text under this distance and this aggregator, with at most
     /// so many conflicts a question; `merge D A` has the usual number.
     Merge(DistanceName, AggregatorName, u64),
     /// `check`: checks a report.
     Check,
+    /// `list D A COUNT AFTER`: lists the closest valuations of the text, without AFTER from the least on.
+    List {
+        /// The distance.
+        distance: DistanceName,
+        /// The aggregator.
+        aggregator: AggregatorName,
+        /// How many valuations are listed at most.
+        count: u32,
+        /// Where the list begins.
+        place: Place,
+    },
 }
 
-ghost use Rattle.merge_cli.specs.Commands.{IsBudget, IsCommand, IsNoCommand, limit_of};
+ghost use Rattle.merge_cli.specs.Commands.{IsBudget, IsCount, IsCommand, IsNoCommand, limit_of};
 
 /// How many bytes a problem text may have.
 const TEXT_LIMIT: usize = 262_144;
 
 /// The number of conflicts a question where no word gives one.
-const USUAL_CONFLICTS: u64 = 100_000;
+pub const USUAL_CONFLICTS: u64 = 100_000;
+
+/// How many valuations a list may have.
+const COUNT_LIMIT: u64 = 10_000;
 
 /// The command that the words spell.
 pub fn command_of(words: &Words) -> Option<Command>
@@ -43,8 +58,42 @@ pub fn command_of(words: &Words) -> Option<Command>
             conflicts_of(words.get(3))?,
         )),
         "check" if words.len() == 1 => Some(Command::Check),
+        "list" => list_of(words),
         _ => None,
     }
+}
+
+// The list that the words spell, the first of which is `list`.
+fn list_of(words: &Words) -> Option<Command>
+    requires { slice_get words.now 0 ≡ Some (codes "list") }
+    ensures some { IfSome result (IsCommand words.now) }
+    ensures none { IfNone result (IsNoCommand words.now) }
+{
+    if words.len() < 4 {
+        return None;
+    }
+    let distance = DistanceName::of_word(words.get(1))?;
+    let aggregator = AggregatorName::of_word(words.get(2))?;
+    let count = count_of(words.get(3))?;
+    let place = place_in(words)?;
+    Some(Command::List {
+        distance,
+        aggregator,
+        count,
+        place,
+    })
+}
+
+// How many valuations a word asks for.
+fn count_of(word: &str) -> Option<u32>
+    ensures some { IfSome result (λ n. (word.now ≡ decimal n) × IsCount n) }
+    ensures none { IfNone result ((n : ℕ) → IsCount n → word.now ≢ decimal n) }
+{
+    let count = number_of(word.as_bytes())?;
+    if count < 1 || count > COUNT_LIMIT {
+        return None;
+    }
+    Some(count as u32)
 }
 
 // The number of conflicts that a word states.
@@ -60,11 +109,11 @@ fn conflicts_of(word: &str) -> Option<u64>
 }
 
 // The most bytes that a command takes, where there is a limit.
-pub(crate) fn limit(command: Command) -> Option<usize>
-    ensures { result ≡ limit_of command }
+pub(crate) fn limit(command: &Command) -> Option<usize>
+    ensures { result ≡ limit_of command.now }
 {
     match command {
-        Command::Merge(..) => Some(TEXT_LIMIT),
+        Command::Merge(..) | Command::List { .. } => Some(TEXT_LIMIT),
         Command::Check => None,
     }
 }

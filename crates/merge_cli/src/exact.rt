@@ -6,6 +6,7 @@ ghost use Rattle.merge_model.specs.Answers.{profile_of};
 ghost use Rattle.merge_model.specs.Merging.{LacksModel};
 ghost use Rattle.merge_cli.specs.declared.commands.Command.{Command};
 ghost use Rattle.merge_cli.specs.Commands.{IsCommand, IsNoCommand, limit_of};
+ghost use Rattle.merge_cli.specs.List.{Listing, Lists};
 ghost use Rattle.merge_cli.specs.Refusals.{too_long_text};
 ghost use Rattle.merge_cli.specs.Answers.{Answers, IsTooMuch, ProblemAnswers};
 
@@ -45,4 +46,11 @@ pub fn lacking_is_exact()
     ensures never_merged { (command : Command) (problem : Problem) (status : ℕ) (text : List ℕ)
         → ProblemAnswers command problem status text → status ≡ 0
         → LacksModel (profile_of problem) → ⊥ }
+{}
+
+/// A problem has one list for each place and number: so `more` is its last line exactly where another
+/// closest valuation is above the last one.
+pub fn list_is_exact()
+    ensures { (asked : Listing) (problem : Problem) (text other : List ℕ)
+        → Lists asked problem text → Lists asked problem other → text ≡ other }
 {}

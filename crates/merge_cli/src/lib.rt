@@ -5,7 +5,9 @@ mod answering;
 mod checking;
 mod commands;
 mod exact;
+mod listing;
 mod merging;
+mod place;
 mod reading;
 mod refusal;
 mod reply;
@@ -16,5 +18,6 @@ mod tests;
 mod top;
 
 pub use commands::{Command, command_of};
-pub use exact::{lacking_is_exact, refused_words_are_exact, too_long_is_exact};
+pub use exact::{lacking_is_exact, list_is_exact, refused_words_are_exact, too_long_is_exact};
+pub use place::Place;
 pub use top::{Outcome, run};

@@ -1,4 +1,6 @@
 ghost use Rattle.std.specs.Prelude.{◌≡◌, IfOk};
+ghost use Rattle.report_lines.specs.Parts.{HasForm, report_text};
+ghost use Rattle.report_lines.specs.Reports.{IsReport, asked_in, parts_in};
 ghost use Rattle.merge_cli.specs.Commands.{IsBudget};
 ghost use Rattle.merge_cli.specs.Merge.{MergeAnswers, status_of};
 
@@ -7,6 +9,7 @@ use crate::status::{ANSWERED, GAVE_UP, LACKS_MODEL};
 use edge::NoMemory;
 use merge_model::{AggregatorName, Answer, DistanceName, Problem};
 use merge_reports::report_on;
+use report_lines::Report;
 use report_text::write_report;
 use std::alloc::Global;
 
@@ -24,8 +27,19 @@ pub fn merge_reply(
         reply.status reply.text.items) }
 {
     let report = report_on(alloc, distance, aggregator, conflicts, problem)?;
+    report_reply(alloc, &report)
+}
+
+/// A report, as a reply.
+pub fn report_reply(alloc: Global, report: &Report) -> Result<Reply, NoMemory>
+    requires whole { IsReport report.now }
+    requires form { HasForm (asked_in report.now) (parts_in report.now) }
+    ensures status { IfOk result (λ reply. reply.status ≡ status_of report.now.answer) }
+    ensures text { IfOk result (λ reply. reply.text.items
+        ≡ report_text (asked_in report.now) (parts_in report.now)) }
+{
     let mut text = Vec::new(alloc);
-    write_report(&report, &mut text)?;
+    write_report(report, &mut text)?;
     let status = status_for(&report.answer);
     Ok(Reply { status, text })
 }

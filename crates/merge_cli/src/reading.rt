@@ -26,7 +26,7 @@ pub fn read_reply<S: Source>(alloc: Global, command: Command, source: &mut S) ->
     ensures faults { S.faults source.old ≤ S.faults source.new }
     ensures quiet { result ≢ Err Stop.Failed → S.faults source.new ≡ S.faults source.old }
 {
-    match read_all(alloc, source, limit(command)) {
+    match read_all(alloc, source, limit(&command)) {
         Ok(bytes) => Ok(text_reply(alloc, command, bytes.as_slice())?),
         Err(ReadStop::TooLong) => Ok(says(alloc, REFUSED, b"refused: too long\n")?),
         Err(ReadStop::Failed) => Err(Stop::Failed),

@@ -21,6 +21,9 @@ const FRONT: &str = "merge-report 1\n\
     verdict 1 yes\n\
     main 8 14\n";
 
+// A text of which every valuation over its atoms is a closest one.
+const TIED: &str = "atoms a b\nagent p : a & b\nagent q : !a & !b\n";
+
 const LACKING: &str = "atoms a\nagent p : a & !a\n";
 
 const UNSATISFIABLE: &str = "atoms a b\n\
@@ -60,7 +63,13 @@ fn answers_with_ample_memory(rt: HostRuntime) -> Result<(), Fail> {
         ("merge hamming sum 1000001", TEXT, 2, "refused words\n"),
         ("merge hamming sum +5", TEXT, 2, "refused words\n"),
         ("check hamming", "", 2, "refused words\n"),
+        ("list hamming sum 2", TIED, 0, "00\n01\nmore\n"),
+        ("list hamming sum 2 01", TIED, 0, "10\n11\nend\n"),
+        ("list hamming sum 5 11", TIED, 0, "end\n"),
+        ("list hamming sum 5 110", TIED, 1, "refused: bad after\n"),
         ("list hamming sum 0", TEXT, 2, "refused words\n"),
+        ("list hamming sum 10001", TEXT, 2, "refused words\n"),
+        ("list hamming sum 1 2", TEXT, 2, "refused words\n"),
         ("bench 01", "", 2, "refused words\n"),
         ("", "", 2, "refused words\n"),
     ];
@@ -86,6 +95,13 @@ fn writes_reports_that_are_accepted(rt: HostRuntime) -> Result<(), Fail> {
             LACKING,
             8,
             "merge-report 1\ndistance drastic\naggregator max\nconflicts 7\n",
+            "accepted inconsistent\n",
+        ),
+        (
+            "list drastic max 7",
+            LACKING,
+            8,
+            "merge-report 1\ndistance drastic\naggregator max\nconflicts 100000\n",
             "accepted inconsistent\n",
         ),
         (

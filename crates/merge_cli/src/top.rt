@@ -12,6 +12,9 @@ ghost use Rattle.merge_cli.specs.Check.{CheckAnswers, accepted_text, wrong_line_
 ghost use Rattle.merge_cli.specs.Merge.{MergeAnswers, ReportsMerge, ReportsLack, ReportsSpent};
 ghost use Rattle.merge_cli.specs.Merge.{main_vars};
 ghost use Rattle.merge_cli.specs.Commands.{merge_of};
+ghost use Rattle.merge_cli.specs.Commands.{usual_conflicts};
+ghost use Rattle.merge_cli.specs.List.{Listing, ListAnswers, Lists, list_of, reported_by, bad_after_text};
+ghost use Rattle.merge_cli.specs.Places.{IsPlaceOf};
 ghost use Rattle.merge_cli.specs.Refusals.{refusal_text, too_long_text};
 ghost use Rattle.merge_cli.specs.Rows.{ReadAnswers};
 ghost use Rattle.merge_model.specs.declared.problem.Problem.{Problem};
@@ -20,6 +23,7 @@ ghost use Rattle.merge_model.specs.Merging.{LacksModel};
 ghost use Rattle.problem_reading.specs.declared.stop.TextFault.{TextFault};
 ghost use Rattle.problem_reading.specs.Spelling.{Spelled, FirstFault};
 ghost use Rattle.report_lines.specs.declared.kinds.Kind.{Kind};
+ghost use Rattle.report_lines.specs.declared.kinds.Kind.TheVariants.{Merged};
 ghost use Rattle.report_lines.specs.declared.kinds.RefusedKind.{RefusedKind};
 ghost use Rattle.report_lines.specs.Judged.{IsAccepted, IsFirstWrong};
 ghost use Rattle.report_lines.specs.Parts.{Asked};
@@ -60,7 +64,9 @@ fn command_reply<S: Source>(alloc: Global, command: Command, source: &mut S) -> 
     ensures unread { ¬ (Reads command) → source.new ≡ source.old }
 {
     match command {
-        Command::Merge(..) | Command::Check => read_reply(alloc, command, source),
+        Command::Merge(..) | Command::Check | Command::List { .. } => {
+            read_reply(alloc, command, source)
+        }
     }
 }
 
@@ -89,11 +95,13 @@ fn reply<S: Source>(alloc: Global, words: &Words, source: &mut S) -> Result<Repl
 ///
 /// - 2: the words are those of no command; nothing is read.
 /// - 4: a read failed; there is no text and the sink is not called.
-/// - 1: the text is refused: it has more than 262,144 bytes, or its first fault is named.
+/// - 1: the text is refused: it has more than 262,144 bytes, or its first fault is named; or a list
+///   begins at a place with another number of truth values than the problem has atoms.
 /// - 7: the text that was checked is no accepted report, and its first wrong line is named.
 /// - 8: the constraint or a base has no model; the text is the report that says which.
 /// - 3: a question of the search learned as many steps as it might; the text is the report of that.
-/// - 0: the text is the report on the merged problem, or says what kind of report was accepted.
+/// - 0: the text is the report on the merged problem, or the list, or says what kind of report was
+///   accepted.
 /// - 5: a write failed; the sink took the first `sent` bytes of the text.
 /// - 6: memory was refused, at any place before the sending; there is no text and the sink is not
 ///   called.
@@ -173,6 +181,40 @@ pub fn run<S: Source, K: Sink>(
     // What `merge` reports is accepted, of the kind that its status tells.
     ensures accepted { (asked : Asked) (kind : Kind) → IsCommand words.now (merge_of asked)
         → result.status ≡ end_number kind → IsAccepted result.text.items kind }
+
+    // What `list` answers to the bytes of a source that tells them.
+    ensures bad_after { (asked : Listing) (bytes : List ℕ)
+        → AsksText (S.left source.old) words.now (list_of asked) bytes
+        → (problem : Problem) → Spelled bytes problem
+        → ¬ (Exceeds (limit_of (list_of asked)) (length bytes))
+        → result.status ≢ 4 → result.status ≢ 5 → result.status ≢ 6
+        → ((result.status ≡ 1) × (result.text.items ≡ bad_after_text))
+        ↔ (IsPlaceOf problem asked.place → ⊥) }
+    ensures listed { (asked : Listing) (problem : Problem)
+        → AsksProblem (S.left source.old) words.now (list_of asked) problem
+        → result.status ≡ 0
+        → Lists asked problem result.text.items }
+    ensures list_lacks { (asked : Listing) (problem : Problem)
+        → AsksProblem (S.left source.old) words.now (list_of asked) problem
+        → result.status ≡ 8
+        → ReportsLack (reported_by asked) problem result.text.items }
+    ensures list_gave_up { (asked : Listing) (problem : Problem)
+        → AsksProblem (S.left source.old) words.now (list_of asked) problem
+        → result.status ≡ 3
+        → ReportsSpent (reported_by asked) problem result.text.items }
+    ensures list_never_gives_up { (asked : Listing) (problem : Problem)
+        → AsksProblem (S.left source.old) words.now (list_of asked) problem
+        → 3 ^ main_vars (reported_by asked) problem ≤ usual_conflicts
+        → result.status ≢ 3 }
+
+    // Whatever the source tells, what `list` answers is a list or a report of some problem, as the
+    // words ask for, and a report is accepted, of the kind that its status tells.
+    ensures list_answered { (asked : Listing) → IsCommand words.now (list_of asked)
+        → result.status ≢ 1 → result.status ≢ 4 → result.status ≢ 5 → result.status ≢ 6
+        → (problem : Problem) × ListAnswers asked problem result.status result.text.items }
+    ensures list_accepted { (asked : Listing) (kind : Kind) → kind ≢ Merged
+        → IsCommand words.now (list_of asked) → result.status ≡ end_number kind
+        → IsAccepted result.text.items kind }
 
     // What `check` answers to the bytes of a source that tells them.
     ensures told_check { (bytes : List ℕ) → AsksCheck (S.left source.old) words.now bytes

@@ -1,4 +1,4 @@
-use Rattle.merge_cli.proofs.Replies.{answered_by_text, answered_by_check}
+use Rattle.merge_cli.proofs.Replies.{answered_by_text, answered_by_check, answered_by_list_text}
 use Rattle.merge_cli.proofs.answering.text_reply.Goals as goal
 
 pub returns-in-Merge : goal.returns-in-Merge
@@ -6,3 +6,6 @@ returns-in-Merge c = answered_by_text c.args.command _ _ _ c.args.bytes.now c.pr
 
 pub returns-in-Check : goal.returns-in-Check
 returns-in-Check c = answered_by_check c.args.command c.args.bytes.now c.check_reply.result c.in-Check.is c.check_reply.ensures
+
+pub returns-in-List : goal.returns-in-List
+returns-in-List c = answered_by_list_text c.args.command _ _ _ _ c.args.bytes.now c.problem_text_reply-in-List.result c.in-List.is c.problem_text_reply-in-List.ensures

@@ -1,7 +1,7 @@
 use Rattle.std.proofs.Common.{inl, inr, refl}
 use Rattle.merge_cli.proofs.Reported.{is_reported}
 use Rattle.merge_cli.proofs.Laws.{no_stop}
-use Rattle.merge_cli.proofs.Told.{refused_words_run, too_long_run, at_end_run, told_run, refused_run, refused_only_run, problem_run, lacking_run, not_merged_run, merged_run, inconsistent_run, gave_up_run, ample_run, reported_run, accepted_run, told_check_run, checked_run, checked_true_run, refused_report_run, refused_report_only_run}
+use Rattle.merge_cli.proofs.Told.{refused_words_run, too_long_run, at_end_run, told_run, refused_run, refused_only_run, problem_run, lacking_run, not_merged_run, merged_run, inconsistent_run, gave_up_run, ample_run, reported_run, accepted_run, told_check_run, checked_run, checked_true_run, refused_report_run, refused_report_only_run, bad_after_run, listed_run, list_lacks_run, list_gave_up_run, list_ample_run, reported_list_run, accepted_list_run}
 use Rattle.merge_cli.proofs.top.run.Goals as goal
 
 pub returns-in-Ok-send_all-clause-read_fault : goal.returns-in-Ok-send_all-clause-read_fault
@@ -65,6 +65,36 @@ returns-in-Err-Failed-clause-accepted g c = λ asked k of is. absurd ((is_report
 
 pub returns-in-Err-NoMemory-clause-accepted : goal.returns-in-Err-NoMemory-clause-accepted
 returns-in-Err-NoMemory-clause-accepted g c = λ asked k of is. absurd ((is_reported k _ is).not_memory refl)
+
+pub returns-in-Ok-send_all-clause-bad_after : goal.returns-in-Ok-send_all-clause-bad_after
+returns-in-Ok-send_all-clause-bad_after g c = λ asked bytes asks problem spelled few four five six. bad_after_run _ _ _ _ _ _ _ c.in-Ok.ensures.ok asked bytes asks problem spelled few
+
+pub returns-in-Ok-send_all-clause-listed : goal.returns-in-Ok-send_all-clause-listed
+returns-in-Ok-send_all-clause-listed g c = listed_run _ _ _ _ _ _ _ c.in-Ok.ensures.ok
+
+pub returns-in-Ok-send_all-clause-list_lacks : goal.returns-in-Ok-send_all-clause-list_lacks
+returns-in-Ok-send_all-clause-list_lacks g c = list_lacks_run _ _ _ _ _ _ _ c.in-Ok.ensures.ok
+
+pub returns-in-Ok-send_all-clause-list_gave_up : goal.returns-in-Ok-send_all-clause-list_gave_up
+returns-in-Ok-send_all-clause-list_gave_up g c = list_gave_up_run _ _ _ _ _ _ _ c.in-Ok.ensures.ok
+
+pub returns-in-Ok-send_all-clause-list_never_gives_up : goal.returns-in-Ok-send_all-clause-list_never_gives_up
+returns-in-Ok-send_all-clause-list_never_gives_up g c = list_ample_run _ _ _ _ _ _ _ c.in-Ok.ensures.ok
+
+pub returns-in-Ok-send_all-clause-list_answered : goal.returns-in-Ok-send_all-clause-list_answered
+returns-in-Ok-send_all-clause-list_answered g c = λ asked of one four five six. reported_list_run _ _ _ _ _ _ _ c.in-Ok.ensures.ok asked of one
+
+pub returns-in-Ok-send_all-clause-list_accepted : goal.returns-in-Ok-send_all-clause-list_accepted
+returns-in-Ok-send_all-clause-list_accepted g c = accepted_list_run _ _ _ _ _ _ _ c.in-Ok.ensures.ok
+
+pub returns-in-Err-clause-list_accepted : goal.returns-in-Err-clause-list_accepted
+returns-in-Err-clause-list_accepted g c = λ asked k other of is. absurd ((is_reported k _ is).not_written refl)
+
+pub returns-in-Err-Failed-clause-list_accepted : goal.returns-in-Err-Failed-clause-list_accepted
+returns-in-Err-Failed-clause-list_accepted g c = λ asked k other of is. absurd ((is_reported k _ is).not_read refl)
+
+pub returns-in-Err-NoMemory-clause-list_accepted : goal.returns-in-Err-NoMemory-clause-list_accepted
+returns-in-Err-NoMemory-clause-list_accepted g c = λ asked k other of is. absurd ((is_reported k _ is).not_memory refl)
 
 pub returns-in-Ok-send_all-clause-told_check : goal.returns-in-Ok-send_all-clause-told_check
 returns-in-Ok-send_all-clause-told_check g c = λ bytes asks four five six. told_check_run _ _ _ _ _ _ _ c.in-Ok.ensures.ok bytes asks
