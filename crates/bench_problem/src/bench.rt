@@ -1,4 +1,4 @@
-ghost use Rattle.std.specs.Prelude.{◌≡◌, ℕ, ◌+◌, ◌*◌, map, IfOk, OnOk};
+ghost use Rattle.std.specs.Prelude.{◌≡◌, ℕ, ◌*◌, map, IfOk, OnOk};
 ghost use Rattle.std.specs.List.{range_with_len};
 ghost use Rattle.merge_model.specs.declared.problem.Problem.{Problem};
 ghost use Rattle.merge_model.specs.Answers.{profile_of};
@@ -40,7 +40,8 @@ fn atoms(alloc: Global) -> Result<Atoms, NoMemory>
 
 // g1 to g8 with their bases.
 fn agents(alloc: Global, draws: &mut Draws) -> Result<Vec<Agent>, NoMemory>
-    ensures agents { IfOk result (λ agents. agents.items ≡ map (agent_of draws.old) (range_with_len 0 8)) }
+    ensures agents { IfOk result (λ agents. agents.items
+        ≡ map (agent_of draws.old) (range_with_len 0 8)) }
     ensures state { OnOk result (draws.new ≡ state_after draws.old (draws_of 10 * 8)) }
 {
     let mut agents = Vec::new(alloc);

@@ -1,6 +1,7 @@
 ghost use Rattle.std.specs.Prelude.{◌≡◌, ◌<◌, ◌+◌, ◌*◌, ◌-◌, length, IfOk, OnOk};
 ghost use Rattle.bench_problem.specs.Draws.{state_after};
-ghost use Rattle.bench_problem.specs.Planted.{ask_of, atom_count, disjunction_of, literal_of, planted, planted_values};
+ghost use Rattle.bench_problem.specs.Planted.{ask_of, atom_count, disjunction_of, literal_of};
+ghost use Rattle.bench_problem.specs.Planted.{planted, planted_values};
 
 use crate::draws::Draws;
 use edge::NoMemory;
