@@ -1,0 +1,3 @@
+pub mod BenchLaws
+pub mod DrawLaws
+pub mod PlantedLaws
