@@ -1,14 +1,13 @@
 -- Lemmas on packing a list of clauses in place.
-use Rattle.std.proofs.Common.{◌≡◌, ℕ, ◌+◌, ◌-◌, ◌<◌, ◌≤◌, Bool, true, false, List, [], ◌∷◌, ◌++◌, length, refl, ap, sym, ◌∙◌, arith, get_or, zero, suc, take, drop, append_assoc, length-append, length-take, length-drop, set, subst, cond}
+use Rattle.std.proofs.Common.{◌≡◌, ℕ, ◌+◌, ◌-◌, ◌<◌, ◌≤◌, Bool, true, false, List, [], ◌∷◌, ◌++◌, length, refl, ap, sym, ◌∙◌, arith, get_or, zero, suc, take, drop, append_assoc, length-drop, set, subst}
 use Rattle.std.specs.Prelude.{slice_range, slice_get, Some}
 use Rattle.std.specs.List.{copy_within, AllByRecursion}
-use Rattle.std.proofs.lemmas.List.{take_all, take-append-drop, length-take-le, take_more, take_more_set, drop-drop, drop-set-lt, drop_more, get_or-drop, append-nil, length-set, get_or_read}
+use Rattle.std.proofs.lemmas.List.{take_all, take-append-drop, length-take-le, take_more_set, drop-drop, drop-set-lt, get_or-drop, append-nil, length-set, get_or_read}
 use Rattle.std.proofs.lemmas.List.Edits.{drop-paste, take-paste, length-paste}
-use Rattle.std.proofs.lemmas.Option.{slice_get-get_or}
 use Rattle.clause_store.specs.declared.lit.Lit.{Lit}
 use Rattle.clause_store.specs.Clauses.{cut, Rise, start_at}
 use Rattle.clause_store.specs.Keeping.{kept_of}
-use Rattle.clause_store.proofs.Cuts.{length-cut, get-cut, start_at-pred, Rise-end, Bounds, Rise-bounds, range-front, cut-push, Rise-push}
+use Rattle.clause_store.proofs.Cuts.{get-cut, start_at-pred, Rise-end, Rise-bounds, range-front, cut-push, Rise-push}
 
 pub kept_none : {X : Type 0} (marks : List Bool) → kept_of {X = X} marks [] ≡ []
 kept_none [] = refl
@@ -223,21 +222,6 @@ packed_keep all old from marks k count end begin lits ends next v p lt m e f =
 -- the same places under other names
 pub packed_at : (all : List Lit) (old : List ℕ) (from : ℕ) (marks : List Bool) (k count end begin : ℕ) (lits : List Lit) (ends : List ℕ) (i j b : ℕ) (ls : List Lit) (es : List ℕ) → Packed all old from marks k count end begin lits ends → i ≡ count → j ≡ end → b ≡ begin → ls ≡ lits → es ≡ ends → Packed all old from marks k i j b ls es
 packed_at all old from marks k count end begin lits ends i j b ls es p e f g h q = rw (e, f, g, h, q) p
-
--- what is left when all marks were read
-pub record Done (all : List Lit) (old : List ℕ) (from : ℕ) (marks : List Bool) (lits : List Lit) (ends : List ℕ) : Type 0 where
-  pub rise : Rise 0 ends (length lits)
-  pub shorter : length lits ≤ length all
-  pub kept : cut 0 ends lits ≡ take from (cut 0 old all) ++ kept_of marks (drop from (cut 0 old all))
-
-pub packed_end : (all : List Lit) (old : List ℕ) (from : ℕ) (marks : List Bool) (k count end begin : ℕ) (lits : List Lit) (ends : List ℕ) → Packed all old from marks k count end begin lits ends → length marks ≤ k → Done all old from marks (take end lits) (take count ends)
-packed_end all old from marks k count end begin lits ends p past =
-    let lc = p.lits_count in let b = p.behind in let w = p.within in
-    let size : length (take end lits) ≡ end = length-take-le end lits (omega arith) in record {
-      rise = subst (λ (n : ℕ). Rise 0 (take count ends) n) (sym size) p.rise;
-      shorter = omega arith;
-      kept = p.kept ∙ ap (λ (ms : List Bool). take from (cut 0 old all) ++ kept_of ms (drop from (cut 0 old all))) (take_all k marks past);
-    }
 
 -- where nothing stands after the first ones
 pub kept_whole : (from : ℕ) (marks : List Bool) (xs : List (List Lit)) → length marks ≡ 0 → from + length marks ≡ length xs → xs ≡ take from xs ++ kept_of marks (drop from xs)

@@ -5,8 +5,11 @@ ghost use Rattle.clause_store.specs.Lits.{InRange};
 ghost use Rattle.clause_store.specs.Limits.{clause_limit};
 ghost use Rattle.derivation_log.specs.Logs.{Log, known_of, IsSound};
 ghost use Rattle.derivation_log.specs.StepLines.{HasLine};
+ghost use Rattle.derivation_log.specs.Trimming.{IsTrimmed, IsSameStep, AreUsed};
+ghost use Rattle.std.specs.List.{AllByRecursion, AllZip};
 
 use crate::step::{Chain, Step, StepKind};
+use crate::trimming::{keep_rows, marks_of, new_numbers, places_of};
 use clause_store::{Clause, ClauseList};
 use edge::NoMemory;
 use std::alloc::Global;
@@ -14,10 +17,10 @@ use std::marker::Model;
 
 /// What the log keeps of a step beside its clause, which stands in the list of known clauses.
 #[derive(Drop)]
-struct Row {
-    kind: StepKind,
-    first: u64,
-    chain: Chain,
+pub(crate) struct Row {
+    pub(crate) kind: StepKind,
+    pub(crate) first: u64,
+    pub(crate) chain: Chain,
 }
 
 /// A log: a main list of clauses and a list of steps, which grows at its end alone. The clauses of
@@ -124,4 +127,48 @@ impl Derivations {
             chain: Chain::from_vec(links),
         })
     }
+}
+
+/// A log of which the steps that are needed are left.
+#[derive(Drop)]
+pub struct TrimmedLog {
+    /// The main list as it was, and these steps.
+    pub derivations: Derivations,
+    /// The new numbers of the steps that were named, in order.
+    pub numbers: Vec<u64>,
+}
+
+/// Leaves of a sound log exactly the steps that are needed for the named ones: these, and what they
+/// use, directly or through others. They stay in their order and are numbered anew without gaps.
+/// `NoMemory` for want of memory.
+pub fn trim(
+    alloc: Global,
+    derivations: Derivations,
+    needed: &[u64],
+) -> Result<TrimmedLog, NoMemory>
+    requires steps { AllByRecursion
+        (λ n. (length derivations.main ≤ n) × (n < length (known_of derivations))) needed.now }
+    requires sound { IsSound derivations.main derivations.steps }
+    ensures trimmed { IfOk result
+        (λ log. IsTrimmed derivations needed.now log.derivations log.numbers.items) }
+    ensures sound { IfOk result (λ log. IsSound log.derivations.main log.derivations.steps) }
+    ensures named { IfOk result
+        (λ log. AllZip (IsSameStep derivations log.derivations) needed.now log.numbers.items) }
+    ensures used { IfOk result (λ log. AreUsed log.derivations log.numbers.items) }
+{
+    let Derivations {
+        mut known,
+        main,
+        mut rows,
+    } = derivations;
+    let _ = known.len();
+    let marks = marks_of(alloc, main, &rows, needed)?;
+    let places = places_of(alloc, main, &marks)?;
+    let numbers = new_numbers(alloc, main, &places, needed)?;
+    known.keep(main, &marks);
+    keep_rows(&mut rows, main, &marks, &places);
+    Ok(TrimmedLog {
+        derivations: Derivations { known, main, rows },
+        numbers,
+    })
 }

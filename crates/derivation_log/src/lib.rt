@@ -6,10 +6,11 @@ mod derivations;
 mod laws;
 mod reading;
 mod step;
+mod trimming;
 mod wide;
 mod writing;
 
-pub use derivations::Derivations;
+pub use derivations::{Derivations, TrimmedLog, trim};
 pub use laws::{one_step, read_back};
 pub use reading::{StepReadStop, read_step};
 pub use step::{Chain, Link, Step, StepKind};

@@ -1,6 +1,8 @@
 // A step of a log: a clause and the resolutions that make it.
-ghost use Rattle.std.specs.Prelude.{◌≡◌};
+ghost use Rattle.std.specs.Prelude.{◌≡◌, ◌+◌, length, map};
+ghost use Rattle.derivation_log.specs.Marking.{placed_link, AreBelow};
 
+use crate::trimming::place_links;
 use clause_store::{Clause, Lit};
 use std::marker::Model;
 
@@ -43,6 +45,14 @@ impl Chain {
     {
         let Chain { links } = self;
         links
+    }
+
+    /// Gives the links the new numbers of the clauses that they name.
+    pub(crate) fn place(&mut self, main: u64, places: &[u64])
+        requires { AreBelow (main + length places.now) (map (λ link. link.number) self.old) }
+        ensures { self.new ≡ map (placed_link main places.now) self.old }
+    {
+        place_links(&mut self.links, main, places);
     }
 
     /// The links, in order.

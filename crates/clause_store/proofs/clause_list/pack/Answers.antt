@@ -1,10 +1,9 @@
-use Rattle.std.proofs.Common.{rules, ◌+◌, ◌-◌, ◌≡◌, ℕ, List, ◌∙◌, ap, sym, refl, length, arith, get_or, set, rules}
+use Rattle.std.proofs.Common.{◌+◌, ◌-◌, ◌≡◌, ℕ, List, ◌∙◌, ap, sym, refl, length, arith}
 use Rattle.std.specs.List.{copy_within}
 use Rattle.std.proofs.lemmas.Bool.Decides.{nat_tests}
-use Rattle.clause_store.specs.declared.lit.Lit.{Lit}
 use Rattle.clause_store.specs.Clauses.{cut, start_at}
 use Rattle.clause_store.proofs.Cuts.{length-cut}
-use Rattle.clause_store.proofs.Packing.{Turn, turn, packed_start, packed_keep, packed_skip, packed_at, packed_end, kept_whole}
+use Rattle.clause_store.proofs.Packing.{turn, packed_start, packed_keep, packed_skip, packed_at, kept_whole}
 use Rattle.clause_store.proofs.clause_list.pack.Goals as goal
 use Rattle.clause_store.proofs.clause_list.pack.Goals.{then-mark, else-mark}
 

@@ -1,7 +1,7 @@
-use Rattle.std.proofs.Common.{◌≡◌, ◌+◌, ◌∙◌, List, ◌++◌, length, arith, sym, ap, rules, take, drop}
+use Rattle.std.proofs.Common.{List, length, arith, ap, take, drop}
 use Rattle.clause_store.specs.declared.lit.Lit.{Lit}
 use Rattle.clause_store.specs.Lits.{Ascends, InRange}
-use Rattle.clause_store.specs.Clauses.{cut, Clauses, IsWhole}
+use Rattle.clause_store.specs.Clauses.{cut, Clauses}
 use Rattle.clause_store.specs.Keeping.{kept_of}
 use Rattle.clause_store.proofs.Each.{each_append}
 use Rattle.clause_store.proofs.Cuts.{length-cut}
