@@ -139,13 +139,13 @@ front_swap : (rows : List Row) (count k : ℕ) (x y : Row) → count ≤ k → k
 front_swap rows count k x y le lt same =
     let size = length-set rows k x in
     let front : take (count + 1) (set (set rows k x) count x) ≡ take count rows ++ x ∷ [] =
-        take_more_set (set rows k x) count x (omega arith) ∙ ap (λ (zs : List Row). zs ++ x ∷ []) (take-set-le count rows k x le) in
+    take_more_set (set rows k x) count x (omega arith) ∙ ap (λ (zs : List Row). zs ++ x ∷ []) (take-set-le count rows k x le) in
     elim (cases_eq count k) [
       | inl e ↦ (
           let yes = same e in
           ap (λ (i : ℕ). take (count + 1) (set (set (set rows k x) count x) i y)) (sym e)
           ∙ ap (λ (zs : List Row). take (count + 1) zs) (set-set (set rows k x) count x y) ∙ ap (λ (z : Row). take (count + 1) (set (set rows k x) count z)) yes ∙ front
-        )
+          )
       | inr n ↦ take-set-le (count + 1) (set (set rows k x) count x) k y (omega arith) ∙ front
     ]
 
@@ -156,7 +156,7 @@ kept_one f old marks k count rows r s lt m e =
     let size : length (set rows k (f r)) ≡ length rows = length-set rows k (f r) in
     let here : get_or (set rows k (f r)) k (f r) ≡ f r = get_or-set_same rows k (f r) (f r) (omega arith) in
     let is : swap (set rows k (f r)) count k ≡ set (set (set rows k (f r)) count (f r)) k (get_or (set rows k (f r)) count (f r)) =
-        sym (swap_is (set rows k (f r)) count k (f r) (omega arith) (omega arith)) ∙ ap (λ (x : Row). set (set (set rows k (f r)) count x) k (get_or (set rows k (f r)) count (f r))) here in
+    sym (swap_is (set rows k (f r)) count k (f r) (omega arith) (omega arith)) ∙ ap (λ (x : Row). set (set (set rows k (f r)) count x) k (get_or (set rows k (f r)) count (f r))) here in
     let member : slice_get old k ≡ Some r = slice_get-get_or old k r (omega arith) ∙ ap (λ (x : Row). Some x) (sym (e ∙ row_left f old marks k count rows r s)) in
     let next : kept_of (take (k + 1) marks) old ≡ kept_of (take k marks) old ++ r ∷ [] = ap (λ (i : ℕ). kept_of (take i marks) old) more ∙ kept_more marks old k r lt m member in record {
       turns = omega arith;

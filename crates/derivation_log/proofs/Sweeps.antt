@@ -75,7 +75,7 @@ swept_closed main k (own ∷ rest) marks size b (suc i) used e m n c le =
       | inl t ↦ elim (all_only main own (swept main (k + 1) rest marks) (k + suc i) (subst (λ ms. IsMarked ms (k + suc i)) (swept_yes main k own rest marks t) m)) [
         | inl a ↦ subst (λ ms. IsMarked ms (n - main)) (sym (swept_yes main k own rest marks t))
             (all_grows main own (swept main (k + 1) rest marks) (n - main)
-              (swept_closed main (k + 1) rest marks (omega arith) b.1 i used e (subst (λ j. IsMarked (swept main (k + 1) rest marks) j) on a) n c le))
+            (swept_closed main (k + 1) rest marks (omega arith) b.1 i used e (subst (λ j. IsMarked (swept main (k + 1) rest marks) j) on a) n c le))
         | inr d ↦ (let far = below_at (main + k) own (main + (k + suc i)) b.0 d in absurd (omega arith))
       ]
       | inr t ↦ subst (λ ms. IsMarked ms (n - main)) (sym (swept_no main k own rest marks t))
@@ -155,9 +155,9 @@ marked_needed g named =
     swept_only (λ k. IsNeeded g named (length g.main + k)) (length g.main) 0 (map numbers_in g.steps) (mark_all (length g.main) named (replicate (length g.steps) false))
     (λ j m. elim (all_only (length g.main) named (replicate (length g.steps) false) j m) [ inl a ↦ absurd (none_marked (length g.steps) j a) | inr c ↦ by_name (length g.main + j) c ])
     (λ i j used e q c.
-      let x = get_map numbers_in g.steps i used e in
-      let s : length g.main + (0 + i) - length g.main ≡ i = omega arith in
-      by_use (length g.main + j) (length g.main + (0 + i)) x.0 q (omega arith, ap (λ (n : ℕ). slice_get g.steps n) s ∙ x.1) (subst (λ us. Contains us (length g.main + j)) (sym x.2) c))
+    let x = get_map numbers_in g.steps i used e in
+    let s : length g.main + (0 + i) - length g.main ≡ i = omega arith in
+    by_use (length g.main + j) (length g.main + (0 + i)) x.0 q (omega arith, ap (λ (n : ℕ). slice_get g.steps n) s ∙ x.1) (subst (λ us. Contains us (length g.main + j)) (sym x.2) c))
 
 needed_marked : (g : Log) (named : List ℕ) → IsSound g.main g.steps → (n : ℕ) → IsNeeded g named n → length g.main ≤ n → n < length g.main + length g.steps → IsMarked (needed_marks g named) (n - length g.main)
 needed_marked g named sound _ (by_name n c) le lt =
@@ -167,7 +167,7 @@ needed_marked g named sound _ (by_use n k step need at c) le lt =
     let inside = slice_get_within g.steps (k - length g.main) step at.1 in
     let before = needed_marked g named sound k need at.0 (omega (arith, at.0)) in
     let size : 0 + length (map numbers_in g.steps) ≡ length (mark_all (length g.main) named (replicate (length g.steps) false)) =
-        omega (arith, length-map g.steps numbers_in, all_length (length g.main) named (replicate (length g.steps) false), length-replicate (length g.steps) false) in
+    omega (arith, length-map g.steps numbers_in, all_length (length g.main) named (replicate (length g.steps) false), length-replicate (length g.steps) false) in
     let zero_on : k - length g.main ≡ 0 + (k - length g.main) = omega arith in
     swept_closed (length g.main) 0 (map numbers_in g.steps) (mark_all (length g.main) named (replicate (length g.steps) false)) size
     (name_before (length g.main) 0 g.main g.steps (omega arith) sound) (k - length g.main) (numbers_in step) (map_get numbers_in g.steps (k - length g.main) step at.1)

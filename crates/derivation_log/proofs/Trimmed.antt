@@ -61,10 +61,10 @@ module _ (g : Log) (all : List (List Lit)) (m v : ℕ) (rows : List Row) (inv : 
       let clauses : drop m k.list ≡ kept_of marks (drop m all) = ap (λ (cs : List (List Lit)). drop m cs) ek ∙ drop_at (take m all) (kept_of marks (drop m all)) m front in
       let placed : left ≡ map (placed_row m (places_from m marks)) (kept_of marks rows) = er ∙ ap (λ (ps : List ℕ). map (placed_row m ps) (kept_of marks rows)) ep in
       let steps : steps_of (drop m k.list) left ≡ map (renumbered (number_after (length g.main) marks)) (kept_of marks g.steps) =
-          ap (λ (cs : List (List Lit)). steps_of cs left) clauses ∙ ap (λ (rs : List Row). steps_of (kept_of marks (drop m all)) rs) placed
-          ∙ steps_after m marks marks (drop m all) rows left_size below
-          ∙ ap (λ (n : ℕ). map (renumbered (number_after n marks)) (kept_of marks (steps_of (drop m all) rows))) (sym s.main)
-          ∙ ap (λ (ss : List Step). map (renumbered (number_after (length g.main) marks)) (kept_of marks ss)) (sym s.steps) in
+      ap (λ (cs : List (List Lit)). steps_of cs left) clauses ∙ ap (λ (rs : List Row). steps_of (kept_of marks (drop m all)) rs) placed
+      ∙ steps_after m marks marks (drop m all) rows left_size below
+      ∙ ap (λ (n : ℕ). map (renumbered (number_after n marks)) (kept_of marks (steps_of (drop m all) rows))) (sym s.main)
+      ∙ ap (λ (ss : List Step). map (renumbered (number_after (length g.main) marks)) (kept_of marks ss)) (sym s.steps) in
       record {
         marks = marks;
         each = ap (λ (ms : List Bool). length ms) needed ∙ needed_length g named;

@@ -43,9 +43,13 @@ number_step main marks n h = let t : nat_lt n main ≡ false = le-ltb n main h i
 comes_on : (f : ℕ → ℕ) (old new : List (List Lit)) (running : List Lit) (links : List Link) (end : List Lit) → ((n : ℕ) → Contains (map (λ (link : Link). link.number) links) n → n < length old → slice_get new (f n) ≡ slice_get old n) → Comes old running links end → Comes new running (map (λ (link : Link). record link { number = f link.number }) links) end
 comes_on f old new running [] end carry h = h
 comes_on f old new running (l ∷ ls) end carry h =
-    let lt = slice_get_within old l.number h.0 h.1 in
-    (h.0, carry l.number (contains_here l.number (map (λ (link : Link). link.number) ls)) lt ∙ h.1, h.2, h.3,
-      comes_on f old new (resolvent l.pivot running h.0) ls end (λ n c. carry n (contains_later l.number n (map (λ (link : Link). link.number) ls) c)) h.4)
+    let lt = slice_get_within old l.number h.0 h.1 in (
+      h.0,
+      carry l.number (contains_here l.number (map (λ (link : Link). link.number) ls)) lt ∙ h.1,
+      h.2,
+      h.3,
+      comes_on f old new (resolvent l.pivot running h.0) ls end (λ n c. carry n (contains_later l.number n (map (λ (link : Link). link.number) ls) c)) h.4,
+    )
 
 follows_on : (f : ℕ → ℕ) (old new : List (List Lit)) (s : Step) → ((n : ℕ) → Contains (numbers_in s) n → n < length old → slice_get new (f n) ≡ slice_get old n) → Follows old s → Follows new (renumbered f s)
 follows_on f old new s carry h =
@@ -74,20 +78,21 @@ sound_after f K old new (true ∷ ms) (s ∷ ss) a b c d h =
     let z : length old ≡ length old + 0 = omega arith in
     let own : f (length old) ≡ length new + 0 = ap f z ∙ b zero (omega arith) in
     let more = length-append old (s.clause ∷ []) in
-    let wider = length-append new (s.clause ∷ []) in
-    (follows_on f old new s (λ n u lt. a n lt (d zero s refl refl n u)) h.0,
+    let wider = length-append new (s.clause ∷ []) in (
+      follows_on f old new s (λ n u lt. a n lt (d zero s refl refl n u)) h.0,
       sound_after f K (old ++ s.clause ∷ []) (new ++ s.clause ∷ []) ms ss
-      (λ n lt k. elim (cases_lt n (length old)) [
-        | inl le ↦ carry_more f old new s.clause n le (a n le k)
-        | inr ge ↦ (
-            let e : n ≡ length old + 0 = omega arith in
-            ap (λ (i : ℕ). slice_get (new ++ s.clause ∷ []) (f i)) (e ∙ sym z) ∙ ap (λ (i : ℕ). slice_get (new ++ s.clause ∷ []) i) own ∙ get_right new (s.clause ∷ []) 0
-            ∙ sym (get_right old (s.clause ∷ []) 0) ∙ ap (λ (i : ℕ). slice_get (old ++ s.clause ∷ []) i) (sym e)
-          )
-      ])
-      (λ j lt. let e : length (old ++ s.clause ∷ []) + j ≡ length old + suc j = omega arith in let g = b (suc j) (omega arith) in let h : length new + marked (take (suc j) (true ∷ ms)) ≡ length (new ++ s.clause ∷ []) + marked (take j ms) = omega arith in ap f e ∙ g ∙ h)
-      (λ j lt k. let e : length (old ++ s.clause ∷ []) + j ≡ length old + suc j = omega arith in c (suc j) (omega arith) (subst K e k))
-      (λ j x g m n u. d (suc j) x g m n u) h.1)
+          (λ n lt k. elim (cases_lt n (length old)) [
+            | inl le ↦ carry_more f old new s.clause n le (a n le k)
+            | inr ge ↦ (
+                let e : n ≡ length old + 0 = omega arith in
+                ap (λ (i : ℕ). slice_get (new ++ s.clause ∷ []) (f i)) (e ∙ sym z) ∙ ap (λ (i : ℕ). slice_get (new ++ s.clause ∷ []) i) own ∙ get_right new (s.clause ∷ []) 0
+                ∙ sym (get_right old (s.clause ∷ []) 0) ∙ ap (λ (i : ℕ). slice_get (old ++ s.clause ∷ []) i) (sym e)
+                )
+          ])
+          (λ j lt. let e : length (old ++ s.clause ∷ []) + j ≡ length old + suc j = omega arith in let g = b (suc j) (omega arith) in let h : length new + marked (take (suc j) (true ∷ ms)) ≡ length (new ++ s.clause ∷ []) + marked (take j ms) = omega arith in ap f e ∙ g ∙ h)
+          (λ j lt k. let e : length (old ++ s.clause ∷ []) + j ≡ length old + suc j = omega arith in c (suc j) (omega arith) (subst K e k))
+          (λ j x g m n u. d (suc j) x g m n u) h.1,
+    )
 sound_after f K old new (false ∷ ms) (s ∷ ss) a b c d h =
     let more = length-append old (s.clause ∷ []) in
     sound_after f K (old ++ s.clause ∷ []) new ms ss
@@ -106,16 +111,16 @@ IsLeft g named n = (n < length g.main) ⊎ IsNeeded g named n
 pub left_sound : (old new : Log) (named numbers : List ℕ) → IsTrimmed old named new numbers → IsSound old.main old.steps → IsSound new.main new.steps
 left_sound old new named numbers t sound =
     let left : IsSound old.main (map (renumbered (number_after (length old.main) t.marks)) (kept_of t.marks old.steps)) =
-        sound_after (number_after (length old.main) t.marks) (IsLeft old named) old.main old.main t.marks old.steps
-        (λ n lt k. ap (λ (i : ℕ). slice_get old.main i) (number_main (length old.main) t.marks n lt))
-        (λ j lt. let e : length old.main + j - length old.main ≡ j = omega arith in number_step (length old.main) t.marks (length old.main + j) (omega arith) ∙ ap (λ (i : ℕ). length old.main + marked (take i t.marks)) e)
-        (λ j lt k. elim k [ inl h ↦ absurd (omega arith) | inr h ↦ (let size = t.each in (t.exact j (omega arith)).1 h) ])
-        (λ j s g m n u.
-          let lt = slice_get_within old.steps j s g in
-          let e : length old.main + j - length old.main ≡ j = omega arith in
-          let need : IsNeeded old named (length old.main + j) = (t.exact j lt).0 m in
-          inr (by_use n (length old.main + j) s need (omega arith, ap (λ (i : ℕ). slice_get old.steps i) e ∙ g) u))
-        sound in
+    sound_after (number_after (length old.main) t.marks) (IsLeft old named) old.main old.main t.marks old.steps
+    (λ n lt k. ap (λ (i : ℕ). slice_get old.main i) (number_main (length old.main) t.marks n lt))
+    (λ j lt. let e : length old.main + j - length old.main ≡ j = omega arith in number_step (length old.main) t.marks (length old.main + j) (omega arith) ∙ ap (λ (i : ℕ). length old.main + marked (take i t.marks)) e)
+    (λ j lt k. elim k [ inl h ↦ absurd (omega arith) | inr h ↦ (let size = t.each in (t.exact j (omega arith)).1 h) ])
+    (λ j s g m n u.
+    let lt = slice_get_within old.steps j s g in
+    let e : length old.main + j - length old.main ≡ j = omega arith in
+    let need : IsNeeded old named (length old.main + j) = (t.exact j lt).0 m in
+    inr (by_use n (length old.main + j) s need (omega arith, ap (λ (i : ℕ). slice_get old.steps i) e ∙ g) u))
+    sound in
     subst (λ (g : Log). IsSound g.main g.steps) (sym t.left) left
 
 pub kept_clauses : (f : ℕ → ℕ) (marks : List Bool) (steps : List Step) → clauses_of (map (renumbered f) (kept_of marks steps)) ≡ kept_of marks (clauses_of steps)
@@ -140,15 +145,15 @@ left_at old new named numbers n t need le lt =
     let place : number_after (length old.main) t.marks n ≡ length old.main + marked (take (n - length old.main) t.marks) = number_step (length old.main) t.marks n le in
     let main : new.main ≡ old.main = ap (λ (g : Log). g.main) t.left in
     let known : known_of new ≡ old.main ++ kept_of t.marks (clauses_of old.steps) =
-        ap (λ (g : Log). known_of g) t.left ∙ ap (λ (cs : List (List Lit)). old.main ++ cs) (kept_clauses (number_after (length old.main) t.marks) t.marks old.steps) in
+    ap (λ (g : Log). known_of g) t.left ∙ ap (λ (cs : List (List Lit)). old.main ++ cs) (kept_clauses (number_after (length old.main) t.marks) t.marks old.steps) in
     let size = ap (λ (cs : List (List Lit)). length cs) main in
     let count = clauses_length old.steps in (
       omega arith,
       ap (λ (cs : List (List Lit)). slice_get cs (number_after (length old.main) t.marks n)) known
-      ∙ ap (λ (k : ℕ). slice_get (old.main ++ kept_of t.marks (clauses_of old.steps)) k) place
-      ∙ get_right old.main (kept_of t.marks (clauses_of old.steps)) (marked (take (n - length old.main) t.marks))
-      ∙ kept_get t.marks (clauses_of old.steps) (n - length old.main) (omega arith) m
-      ∙ sym (get_right old.main (clauses_of old.steps) (n - length old.main)) ∙ ap (λ (k : ℕ). slice_get (known_of old) k) e,
+          ∙ ap (λ (k : ℕ). slice_get (old.main ++ kept_of t.marks (clauses_of old.steps)) k) place
+          ∙ get_right old.main (kept_of t.marks (clauses_of old.steps)) (marked (take (n - length old.main) t.marks))
+          ∙ kept_get t.marks (clauses_of old.steps) (n - length old.main) (omega arith) m
+          ∙ sym (get_right old.main (clauses_of old.steps) (n - length old.main)) ∙ ap (λ (k : ℕ). slice_get (known_of old) k) e,
     )
 
 named_left : (old new : Log) (named numbers : List ℕ) (t : IsTrimmed old named new numbers) (ns : List ℕ) → ((n : ℕ) → Contains ns n → Contains named n) → AllByRecursion (λ n. (length old.main ≤ n) × (n < length (known_of old))) ns →

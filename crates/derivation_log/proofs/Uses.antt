@@ -49,8 +49,8 @@ used_of old new named numbers t sound n _ (by_use k q step need at c) le m e =
     let on : length old.main + (q - length old.main) ≡ q = omega arith in
     let later : get_or t.marks (q - length old.main) false ≡ true = (t.exact (q - length old.main) inside).1 (subst (λ i. IsNeeded old named i) (sym on) need) in
     let before : k < length old.main + (0 + (q - length old.main)) =
-        below_at (length old.main + (0 + (q - length old.main))) (numbers_in step) k
-        (name_at (length old.main) 0 (map numbers_in old.steps) (q - length old.main) (numbers_in step) (name_before (length old.main) 0 old.main old.steps (omega arith) sound) (map_get numbers_in old.steps (q - length old.main) step at.1)) c in
+    below_at (length old.main + (0 + (q - length old.main))) (numbers_in step) k
+    (name_at (length old.main) 0 (map numbers_in old.steps) (q - length old.main) (numbers_in step) (name_before (length old.main) 0 old.main old.steps (omega arith) sound) (map_get numbers_in old.steps (q - length old.main) step at.1)) c in
     let size = t.each in
     let less = marked_less t.marks (k - length old.main) (q - length old.main) (omega arith) (omega arith) m in
     let place_k = number_step (length old.main) t.marks k le in
@@ -59,17 +59,17 @@ used_of old new named numbers t sound n _ (by_use k q step need at c) le m e =
     let index : number_after (length old.main) t.marks q - length new.main ≡ marked (take (q - length old.main) t.marks) = omega arith in
     let steps : new.steps ≡ map (renumbered (number_after (length old.main) t.marks)) (kept_of t.marks old.steps) = ap (λ (g : Log). g.steps) t.left in
     let there : slice_get new.steps (number_after (length old.main) t.marks q - length new.main) ≡ Some (renumbered (number_after (length old.main) t.marks) step) =
-        ap (λ (i : ℕ). slice_get new.steps i) index ∙ ap (λ (ss : List Step). slice_get ss (marked (take (q - length old.main) t.marks))) steps
-        ∙ map_get (renumbered (number_after (length old.main) t.marks)) (kept_of t.marks old.steps) (marked (take (q - length old.main) t.marks)) step (kept_get t.marks old.steps (q - length old.main) inside later ∙ at.1) in
+    ap (λ (i : ℕ). slice_get new.steps i) index ∙ ap (λ (ss : List Step). slice_get ss (marked (take (q - length old.main) t.marks))) steps
+    ∙ map_get (renumbered (number_after (length old.main) t.marks)) (kept_of t.marks old.steps) (marked (take (q - length old.main) t.marks)) step (kept_get t.marks old.steps (q - length old.main) inside later ∙ at.1) in
     let uses : numbers_in (renumbered (number_after (length old.main) t.marks) step) ≡ map (number_after (length old.main) t.marks) (numbers_in step) =
-        ap (λ (ns : List ℕ). number_after (length old.main) t.marks step.first ∷ ns) (links_uses (number_after (length old.main) t.marks) step.chain) in
+    ap (λ (ns : List ℕ). number_after (length old.main) t.marks step.first ∷ ns) (links_uses (number_after (length old.main) t.marks) step.chain) in
     inr (
       number_after (length old.main) t.marks q,
       renumbered (number_after (length old.main) t.marks) step,
       omega arith,
       (omega arith, there),
       subst (λ i. Contains (numbers_in (renumbered (number_after (length old.main) t.marks) step)) i) e
-      (subst (λ ns. Contains ns (number_after (length old.main) t.marks k)) (sym uses) (contains_map (number_after (length old.main) t.marks) (numbers_in step) k c)),
+          (subst (λ ns. Contains ns (number_after (length old.main) t.marks k)) (sym uses) (contains_map (number_after (length old.main) t.marks) (numbers_in step) k c)),
     )
 
 pub left_used : (old new : Log) (named numbers : List ℕ) → IsTrimmed old named new numbers → IsSound old.main old.steps → AreUsed new numbers
@@ -82,5 +82,5 @@ left_used old new named numbers t sound = λ n le lt.
     let q : marked (take p.0 t.marks) ≡ n - length new.main = p.3 in
     let last : length old.main + marked (take p.0 t.marks) ≡ n = omega arith in
     let there : number_after (length old.main) t.marks (length old.main + p.0) ≡ n =
-        number_step (length old.main) t.marks (length old.main + p.0) (omega arith) ∙ ap (λ (i : ℕ). length old.main + marked (take i t.marks)) e ∙ last in
+    number_step (length old.main) t.marks (length old.main + p.0) (omega arith) ∙ ap (λ (i : ℕ). length old.main + marked (take i t.marks)) e ∙ last in
     used_of old new named numbers t sound n (length old.main + p.0) ((t.exact p.0 p.1).0 p.2) (omega arith) (ap (λ (i : ℕ). get_or t.marks i false) e ∙ p.2) there

@@ -141,11 +141,7 @@ pub struct TrimmedLog {
 /// Leaves of a sound log exactly the steps that are needed for the named ones: these, and what they
 /// use, directly or through others. They stay in their order and are numbered anew without gaps.
 /// `NoMemory` for want of memory.
-pub fn trim(
-    alloc: Global,
-    derivations: Derivations,
-    needed: &[u64],
-) -> Result<TrimmedLog, NoMemory>
+pub fn trim(alloc: Global, derivations: Derivations, needed: &[u64]) -> Result<TrimmedLog, NoMemory>
     requires steps { AllByRecursion
         (λ n. (length derivations.main ≤ n) × (n < length (known_of derivations))) needed.now }
     requires sound { IsSound derivations.main derivations.steps }

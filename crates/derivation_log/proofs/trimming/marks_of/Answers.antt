@@ -10,7 +10,7 @@ loop-k-preserved c =
     let z = i.size in
     let s : c.loop-k.k ≡ c.loop-k.k - 1 + 1 = omega (arith, c.loop-k-test.true) in
     let f : get_or c.loop-k.marks.items (c.loop-k.k - 1) false ≡ false =
-        sym (get_or_read c.loop-k.marks.items (c.loop-k.k - 1) c.index.result.now (omega (arith, c.loop-k-test.true)) c.index.ensures false) ∙ c.if-index.false in
+    sym (get_or_read c.loop-k.marks.items (c.loop-k.k - 1) c.index.result.now (omega (arith, c.loop-k-test.true)) c.index.ensures false) ∙ c.if-index.false in
     record {
       marks = swept_less c.args.main c.loop-k.k (c.loop-k.k - 1) c.args.rows.now _ c.loop-k.marks.items s (omega (arith, c.loop-k-test.true)) i.marks f;
       size = i.size;
