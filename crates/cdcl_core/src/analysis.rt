@@ -84,7 +84,8 @@ fn resolve(
     requires size { length marks.old.marked.items ≡ trail.now.vars + 1 }
     ensures size { length marks.new.marked.items ≡ trail.now.vars + 1 }
     ensures chain { OnOk result
-        (chain.new.items ≡ chain.old.items ++ record { pivot = negated lit; number = number } ∷ []) }
+        (chain.new.items ≡ chain.old.items ++ record { pivot = negated lit; number = number } ∷
+        []) }
     ensures added { IfOk result (λ count. IsAdded trail.now.entries
         (lower level trail.now.entries) (slice_set marks.old.marked.items lit.var false)
         marks.old.kept.items marks.new.marked.items marks.new.kept.items
@@ -116,7 +117,8 @@ pub fn learn<P: Propagator>(
     requires clear { AreClear trail.now.vars marks.old.marked.items marks.old.kept.items }
     ensures clear { OnOk result (AreClear trail.now.vars marks.new.marked.items
         marks.new.kept.items) }
-    ensures lesson { IfOk result (λ made. IsLesson known.now.list known.now.vars made.first made.chain
+    ensures lesson { IfOk result
+        (λ made. IsLesson known.now.list known.now.vars made.first made.chain
         made.clause) }
     ensures is_false { IfOk result (λ made. AllByRecursion
         (IsFalseIn trail.now.entries) made.clause) }
@@ -168,7 +170,8 @@ pub fn claim<P: Propagator>(
     requires clear { AreClear trail.now.vars marks.old.marked.items marks.old.kept.items }
     ensures clear { OnOk result (AreClear trail.now.vars marks.new.marked.items
         marks.new.kept.items) }
-    ensures lesson { IfOk result (λ made. IsLesson known.now.list known.now.vars made.first made.chain
+    ensures lesson { IfOk result
+        (λ made. IsLesson known.now.list known.now.vars made.first made.chain
         made.clause) }
     ensures refutes { IfOk result (λ made. Refutes made.clause assumptions.now) }
 {

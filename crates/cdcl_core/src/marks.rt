@@ -59,8 +59,8 @@ impl Marks {
         Ok(())
     }
 
-    /// Adds a literal: marks it where it is false, and keeps it where it is not or its level is below
-    /// the given one. Whether the walk has to come to it.
+    /// Adds a literal: marks it where it is false, and keeps it where it is not or its level is
+    /// below the given one. Whether the walk has to come to it.
     fn mark(&mut self, trail: &Trail, lit: Lit, level: u32) -> Result<bool, NoMemory>
         requires within { IsWithin trail.now.vars lit }
         requires size { length self.old.marked.items ≡ trail.now.vars + 1 }

@@ -1,5 +1,6 @@
 // The solver: decide, propagate, learn.
-ghost use Rattle.std.specs.Prelude.{◌≡◌, ◌≢◌, ◌<◌, false, length, IfOk, OnOk, OnErr, Some, Contains};
+ghost use Rattle.std.specs.Prelude.{◌≡◌, ◌≢◌, ◌<◌, false, length, IfOk, OnOk, OnErr, Some};
+ghost use Rattle.std.specs.Prelude.{Contains};
 ghost use Rattle.std.specs.Prelude.{AllPairs};
 ghost use Rattle.clause_store.specs.Lits.{InRange};
 ghost use Rattle.derivation_log.specs.Logs.{known_of};
@@ -79,7 +80,8 @@ pub fn search<P: Propagator>(
     ensures ready { OnOk result (IsReady log.new (P.attached propagator.new)
         (P.followed propagator.new) (P.vars propagator.new) trail.new) }
     ensures rest { OnOk result (trail.new.level ≡ 0) }
-    ensures answered { IfOk result (λ reply. IsAnswered log.old log.new assumptions.now budget reply) }
+    ensures answered { IfOk result
+        (λ reply. IsAnswered log.old log.new assumptions.now budget reply) }
     ensures broken_off { OnErr result (IsBrokenOff log.old log.new budget) }
     ensures log { IsLog log.new }
     ensures longer { IsLonger log.old log.new }

@@ -118,7 +118,8 @@ impl<P: Propagator + Drop> Solver<P> {
         ensures distinct { AllPairs (λ c d. c ≢ d) (learned_of self.new.log.steps) }
         ensures few { length (learned_of self.new.log.steps) < 3 ^ self.new.log.vars }
 
-        ensures answered { IfOk result (λ reply. IsAnswered self.old.log self.new.log assumptions.now budget
+        ensures answered { IfOk result
+            (λ reply. IsAnswered self.old.log self.new.log assumptions.now budget
             reply) }
         ensures refuted { IfOk result (IsJust self.old.log.main assumptions.now) }
         ensures enough { 3 ^ self.old.log.vars ≤ budget → IfOk result IsDecided }

@@ -192,7 +192,8 @@ fn pack(lits: &mut Vec<Lit>, ends: &mut Vec<u32>, from: usize, marks: &[bool])
     requires few { length lits.old.items < 2 ^ 32 }
     ensures rise { Rise 0 ends.new.items (length lits.new.items) }
     ensures shorter { length lits.new.items ≤ length lits.old.items }
-    ensures kept { cut 0 ends.new.items lits.new.items ≡ take from (cut 0 ends.old.items lits.old.items) ++
+    ensures kept { cut 0 ends.new.items lits.new.items ≡
+        take from (cut 0 ends.old.items lits.old.items) ++
         kept_of marks.now (drop from (cut 0 ends.old.items lits.old.items)) }
 {
     if marks.is_empty() {

@@ -135,7 +135,8 @@ impl<D: Counted + Drop, A: Levelled + Drop> Listing<D, A> {
         ensures problem { result.0 ≡ self.subject.problem }
         ensures log { result.1 ≡ self.engine.log }
         ensures sound { IsLog self.engine.log }
-        ensures over { IsOver (⟦<Subject<D, A> as Questions>⟧.setting self.subject) self.engine.log }
+        ensures over { IsOver
+            (⟦<Subject<D, A> as Questions>⟧.setting self.subject) self.engine.log }
     {
         let Listing {
             subject,

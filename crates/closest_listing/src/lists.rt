@@ -30,12 +30,15 @@ pub fn list_next<D: Counted + Drop, A: Levelled + Drop>(
     listing: &mut Listing<D, A>,
     count: u32,
 ) -> Result<ClosestList, SearchStop>
-    requires { IsBestFor (⟦<Subject<D, A> as Questions>⟧.setting listing.old.subject) listing.old.best }
+    requires { IsBestFor
+        (⟦<Subject<D, A> as Questions>⟧.setting listing.old.subject) listing.old.best }
     ensures subject { listing.new.subject ≡ listing.old.subject }
     ensures answer { MatchResult result
-        (λ list. IsClosestList (⟦<Subject<D, A> as Questions>⟧.setting listing.old.subject) listing.old.after count
+        (λ list. IsClosestList
+        (⟦<Subject<D, A> as Questions>⟧.setting listing.old.subject) listing.old.after count
         list.valuations.items list.more)
-        (λ stop. IsHalted listing.old.engine.log listing.new.engine.log listing.old.subject.budget stop) }
+        (λ stop. IsHalted
+        listing.old.engine.log listing.new.engine.log listing.old.subject.budget stop) }
 {
     let mut valuations = Vec::new(alloc);
     for _ in 0..count {
@@ -53,8 +56,8 @@ pub fn list_next<D: Counted + Drop, A: Levelled + Drop>(
     Ok(ClosestList { valuations, more })
 }
 
-/// The text of a list: a line for each valuation, and last `more` where there is another, else `end`.
-/// `NoMemory` for want of memory.
+/// The text of a list: a line for each valuation, and last `more` where there is another, else
+/// `end`. `NoMemory` for want of memory.
 pub fn text_of(alloc: Global, list: &ClosestList) -> Result<Vec<u8>, NoMemory>
     ensures { IfOk result (λ text. text.items ≡ list_text list.now.valuations.items list.now.more) }
 {
@@ -66,7 +69,8 @@ pub fn text_of(alloc: Global, list: &ClosestList) -> Result<Vec<u8>, NoMemory>
 
 /// Appends a line for each valuation.
 fn write_lines(valuations: &[Valuation], into: &mut Vec<u8>) -> Result<(), NoMemory>
-    ensures { OnOk result (into.new.items ≡ into.old.items ++ flat_map valuation_line valuations.now) }
+    ensures { OnOk result (into.new.items ≡
+        into.old.items ++ flat_map valuation_line valuations.now) }
 {
     for valuation in valuations {
         write_valuation(*valuation, into)?;

@@ -59,8 +59,10 @@ fn prospect_of<D: Counted + Drop, A: Levelled + Drop>(
 ) -> Result<Prospect, SearchStop>
     ensures subject { search.new.subject ≡ search.old.subject }
     ensures answer { MatchResult result
-        (λ found. IsProspect (⟦<Subject<D, A> as Questions>⟧.setting search.old.subject) search.new.engine.log found)
-        (λ stop. (before : Log) × IsStopped before search.new.engine.log search.old.subject.budget stop) }
+        (λ found. IsProspect
+        (⟦<Subject<D, A> as Questions>⟧.setting search.old.subject) search.new.engine.log found)
+        (λ stop. (before : Log) ×
+        IsStopped before search.new.engine.log search.old.subject.budget stop) }
 {
     let consistency = search.consistency()?;
     if consistency.has_models() {
@@ -76,7 +78,8 @@ fn ended<D: Counted + Drop, A: Levelled + Drop>(search: Search<D, A>, end: ListE
     ensures end { result.end ≡ end }
     ensures log { result.derivations ≡ search.engine.log }
     ensures follows { IsLog search.engine.log }
-    ensures over { IsOver (⟦<Subject<D, A> as Questions>⟧.setting search.subject) search.engine.log }
+    ensures over { IsOver
+        (⟦<Subject<D, A> as Questions>⟧.setting search.subject) search.engine.log }
 {
     let (problem, derivations) = search.into_parts();
     ListOutcome {
@@ -137,8 +140,8 @@ fn list_in<D: Counted + Drop, A: Levelled + Drop>(
     }
 }
 
-/// Searches for the closest valuations above a place, at most `count`; each question may learn `budget`
-/// steps.
+/// Searches for the closest valuations above a place, at most `count`; each question may learn
+/// `budget` steps.
 fn list_by<D: Counted + Drop, A: Levelled + Drop>(
     alloc: Global,
     distance: D,
@@ -162,9 +165,9 @@ fn list_by<D: Counted + Drop, A: Levelled + Drop>(
     list_in(alloc, search, after, count)
 }
 
-/// Searches for the closest valuations above a place, or for the least of all, under the named distance
-/// and aggregator: at most `count`, and whether there is one more. Each question may learn `budget`
-/// steps. `NoMemory` for want of memory.
+/// Searches for the closest valuations above a place, or for the least of all, under the named
+/// distance and aggregator: at most `count`, and whether there is one more. Each question may learn
+/// `budget` steps. `NoMemory` for want of memory.
 pub fn list_closest(
     alloc: Global,
     distance: DistanceName,
@@ -178,7 +181,8 @@ pub fn list_closest(
     requires after { ForSome after (λ v. length v ≡ length problem.atoms) }
     ensures problem { IfOk result (λ outcome. outcome.problem ≡ problem) }
     ensures laws { Laws (setting_named distance aggregator problem) }
-    ensures outcome { IfOk result (λ outcome. IsListOutcome (setting_named distance aggregator problem)
+    ensures outcome { IfOk result
+        (λ outcome. IsListOutcome (setting_named distance aggregator problem)
         budget after count outcome.derivations outcome.end) }
 {
     match (distance, aggregator) {

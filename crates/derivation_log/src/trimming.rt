@@ -2,7 +2,8 @@
 ghost use Rattle.std.specs.Prelude.{◌≡◌, ◌+◌, ◌<◌, ◌^◌, false, length, map, replicate, IfOk};
 ghost use Rattle.clause_store.specs.Keeping.{kept_of};
 ghost use Rattle.derivation_log.specs.Marking.{mark, mark_all, numbers_of, swept, places_from};
-ghost use Rattle.derivation_log.specs.Marking.{place_in, placed_link, placed_row, AreBelow, RowsBelow};
+ghost use Rattle.derivation_log.specs.Marking.{place_in, placed_link, placed_row, AreBelow};
+ghost use Rattle.derivation_log.specs.Marking.{RowsBelow};
 
 use crate::derivations::Row;
 use crate::step::Link;
@@ -48,8 +49,8 @@ fn mark_used(marks: &mut [bool], main: u64, row: &Row)
     mark_links(marks, main, row.chain.as_slice());
 }
 
-/// The marks of the steps that are needed. From the last step back, each that is needed marks what it
-/// uses.
+/// The marks of the steps that are needed. From the last step back, each that is needed marks what
+/// it uses.
 pub(crate) fn marks_of(
     alloc: Global,
     main: u64,
