@@ -9,10 +9,6 @@ use Rattle.clause_store.specs.Clauses.{cut, Rise, start_at}
 use Rattle.clause_store.specs.Keeping.{kept_of}
 use Rattle.clause_store.proofs.Cuts.{get-cut, start_at-pred, Rise-end, Rise-bounds, range-front, cut-push, Rise-push}
 
-pub kept_none : {X : Type 0} (marks : List Bool) → kept_of {X = X} marks [] ≡ []
-kept_none [] = refl
-kept_none (m ∷ ms) = refl
-
 -- one more member that is marked, or that is not
 pub kept_more : {X : Type 0} (marks : List Bool) (xs : List X) (k : ℕ) (x : X) → k < length marks → get_or marks k false ≡ true → slice_get xs k ≡ Some x → kept_of (take (suc k) marks) xs ≡ kept_of (take k marks) xs ++ x ∷ []
 kept_more [] xs k x lt m e = absurd (omega arith)

@@ -7,7 +7,7 @@ ghost use Rattle.distance_search.specs.Laws.{Laws};
 ghost use Rattle.distance_search.specs.Setting.{setting_of, IsOver};
 ghost use Rattle.distance_search.specs.Heard.{IsStopped};
 ghost use Rattle.distance_search.specs.Results.{IsBestFor};
-ghost use Rattle.closest_listing.specs.Lists.{IsProspect, IsListEnd, IsListOutcome, setting_named};
+ghost use Rattle.closest_listing.specs.Lists.{IsProspect, IsListOutcome, setting_named};
 
 use crate::listing::Listing;
 use crate::lists::{ClosestList, list_next};

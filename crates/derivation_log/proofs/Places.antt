@@ -171,6 +171,3 @@ kept_one f old marks k count rows r s lt m e =
           ∙ drop-set-lt (k + 1) (set rows k (f r)) count (f r) (omega arith) ∙ drop-set-lt (k + 1) rows k (f r) (omega arith)
           ∙ drop_one rows old k s.left;
     }
-
-pub kept_all : (f : Row → Row) (old : List Row) (marks : List Bool) (k count : ℕ) (rows : List Row) → Kept f old marks k count rows → length marks ≤ k → take count rows ≡ map f (kept_of marks old)
-kept_all f old marks k count rows s past = s.front ∙ ap (λ (ms : List Bool). map f (kept_of ms old)) (take_all k marks past)

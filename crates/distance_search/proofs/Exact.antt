@@ -79,20 +79,10 @@ pub record IsNearer (s : Setting) (v : List Bool) (agent k : ℕ) (x : Witness) 
   pub model : IsModel s.profile.atoms (base_at s.profile agent) (own_at x.own.items agent)
   pub nearer : s.dist v (own_at x.own.items agent) < k
 
-pub found_nearer : (s : Setting) (log : Log) (v : List Bool) (agent k : ℕ) (r : Reply) (x : Witness) → agent < length s.profile.bases → r ≡ Found x → IsAnswer s log (NoNearer agent v k) r → IsNearer s v agent k x
-found_nearer s log v agent k r x lt is answer =
-    let a = subst (λ r. IsAnswer s log (NoNearer agent v k) r) is answer in
-    let w = a.0 in
-    let b = a.1 in
-    record { there = omega (arith, w.count); model = b.1; nearer = b.2 }
-
 pub agents_are : (s : Setting) → Laws s → (frame : Frame) (n : ℕ) → frame ≡ frame_of s.main → n ≡ length frame.copies → n ≡ length s.profile.bases
 agents_are s law frame n e f = f ∙ ap (λ (x : Frame). length x.copies) e ∙ length-map s.main.copies copy_of ∙ copies_size s law
 
 -- ---- a model of each base
-
-pub base_proper : (s : Setting) → Laws s → (agent : ℕ) → agent < length s.profile.bases → IsAskable s (NoModelOfBase agent)
-base_proper s law agent lt = ready s law (NoModelOfBase agent) (omega (arith, copies_size s law))
 
 pub base_refuted : (s : Setting) (log : Log) (agent : ℕ) (r : Reply) (number : ℕ) → agent < length s.profile.bases → All (HasModel s.profile.atoms) s.profile.bases → r ≡ Refuted number → IsAnswer s log (NoModelOfBase agent) r → ⊥
 base_refuted s log agent r number lt have is answer =
@@ -102,12 +92,6 @@ base_refuted s log agent r number lt have is answer =
 pub record IsBaseModel (s : Setting) (agent : ℕ) (x : Witness) : Type 0 where
   pub there : agent < length x.own.items
   pub model : IsModel s.profile.atoms (base_at s.profile agent) (own_at x.own.items agent)
-
-pub base_found : (s : Setting) (log : Log) (agent : ℕ) (r : Reply) (x : Witness) → agent < length s.profile.bases → r ≡ Found x → IsAnswer s log (NoModelOfBase agent) r → IsBaseModel s agent x
-base_found s log agent r x lt is answer =
-    let a = subst (λ r. IsAnswer s log (NoModelOfBase agent) r) is answer in
-    let w = a.0 in
-    record { there = omega (arith, w.count); model = a.1 }
 
 pub one_model : (s : Setting) (agent : ℕ) (models pushed : List (List Bool)) (v : List Bool) → agent < length s.profile.bases → AllZip (IsModel s.profile.atoms) (take agent s.profile.bases) models → IsModel s.profile.atoms (base_at s.profile agent) v → pushed ≡ models ++ v ∷ [] → AllZip (IsModel s.profile.atoms) (take (agent + 1) s.profile.bases) pushed
 one_model s agent models pushed v lt h m e =
@@ -120,13 +104,6 @@ pub whole_models : (s : Setting) (agents : ℕ) (models : List (List Bool)) → 
 whole_models s agents models le h = subst (λ fs. AllZip (IsModel s.profile.atoms) fs models) (take_all agents s.profile.bases le) h
 
 -- ---- from agent to agent
-
-pub none_nearest : (s : Setting) (log : Log) (v : List Bool) (vector : List ℕ) (nearest : List (List Bool)) (far : List (Option ℕ)) → vector ≡ [] → nearest ≡ [] → far ≡ [] → AreNearest s log v 0 vector nearest far
-none_nearest s log v vector nearest far ek eu ef = record {
-  exact = ek;
-  models = subst (λ us. AllZip (λ base near. IsModel s.profile.atoms base near × (s.dist v near ≡ away s.dist v base)) [] us) (sym eu) tt;
-  proven = none_proven s log (λ i k. NoNearer i v k) vector far ek ef;
-}
 
 -- one agent more
 pub one_nearest : (s : Setting) (a b : Log) (v : List Bool) (agent : ℕ) (vector ks : List ℕ) (nearest us : List (List Bool)) (far fs : List (Option ℕ)) (k : ℕ) (near : List Bool) (f : Option ℕ) → agent < length s.profile.bases → IsLonger a b → AreNearest s a v agent vector nearest far → IsNearest s b v agent k near f →

@@ -12,9 +12,6 @@ use Rattle.cdcl_core.proofs.Longer.{longer_none, longer_on}
 pub halted_on : (a b c : Log) (budget : ℕ) (stop : SearchStop) → IsLonger a b → IsHalted b c budget stop → IsHalted a c budget stop
 halted_on a b c budget stop g h = record { before = h.before; longer = longer_on a b h.before g h.longer; stopped = h.stopped }
 
-pub halted_first : (a b : Log) (budget : ℕ) (stop : SearchStop) → IsStopped a b budget stop → IsHalted a b budget stop
-halted_first a b budget stop h = record { before = a; longer = longer_none a; stopped = h }
-
 pub halted_none : (a b : Log) (budget : ℕ) (stop : SearchStop) → stop ≡ OutOfMemory → IsLonger a b → IsHalted a b budget stop
 halted_none a b budget stop e g = record { before = b; longer = g; stopped = subst (λ x. IsStopped b b budget x) (sym e) tt }
 

@@ -24,9 +24,6 @@ away_on s a b found g h = record { shown = h.shown; far = all_proven_on s a b (�
 pub at_hand_on : (s : Setting) (a b : Log) (pool : List Away) → IsLonger a b → AreAtHand s a pool → AreAtHand s b pool
 at_hand_on s a b pool g h = ∥∥₁_elim h (hlevel) (λ each. ∣ All-weaker (IsAtHand s a) (IsAtHand s b) (λ x k. record { closest = k.closest; away = away_on s a b x g k.away }) pool each ∣₁)
 
-pub none_at_hand : (s : Setting) (log : Log) (pool : List Away) → pool ≡ [] → AreAtHand s log pool
-none_at_hand s log pool e = subst (λ xs. AreAtHand s log xs) (sym e) ∣ All-nil (IsAtHand s log) ∣₁
-
 -- one more is at hand
 pub one_at_hand : (s : Setting) (log : Log) (old new : List Away) (away : Away) → IsKept old away new → IsAtHand s log away → AreAtHand s log old → AreAtHand s log new
 one_at_hand s log old new away (inl e) x h = subst (λ xs. AreAtHand s log xs) (sym e) h

@@ -66,11 +66,6 @@ first_refuted s law frame levels made given log r number c e f g h is answer =
     let a = subst (λ r. IsAnswer s log (NoModelWith given []) r) is answer in
     some_reached s law c (subst (λ us. IsTrueIn s (NoModelWith us [])) (lengths_of s frame levels made given e f g h) a.0)
 
-pub first_found : (s : Setting) (given : List ℕ) (prefix : List Bool) (log : Log) (r : Reply) (x : Witness) → r ≡ Found x → IsAnswer s log (NoModelWith given prefix) r → IsReached s x
-first_found s given prefix log r x is answer =
-    let a = subst (λ r. IsAnswer s log (NoModelWith given prefix) r) is answer in
-    record { witness = a.0; candidate = a.1.0 }
-
 -- ---- lowering one level
 
 -- a better list has a lower value there
@@ -93,12 +88,6 @@ lowered_before s j v ws vals first least e c b =
 -- at a value of 0 nothing is lower
 pub lowest_at_zero : (s : Setting) (log : Log) (j : ℕ) (from made : Witness) → slice_index made.values.items j ≡ 0 → IsReached s made → take j made.values.items ≡ take j from.values.items → IsLowered s log j from made None
 lowest_at_zero s log j from made e r t = record { reached = r; before = t; least = λ v ws c b. none_at_zero j (values_in s v ws) made.values.items e b; proven = e }
-
--- a refuted question ends the loop
-pub lowest_by : (s : Setting) (log : Log) (j k : ℕ) (from made : Witness) (given : List ℕ) (r : Reply) (number : ℕ) → given ≡ made.values.items → r ≡ Refuted number → IsAnswer s log (NoBetter j given) r → k ≡ slice_index made.values.items j → 1 ≤ k → IsReached s made → take j made.values.items ≡ take j from.values.items → IsLowered s log j from made (Some number)
-lowest_by s log j k from made given r number copy is answer e lo reached t =
-    let a = subst (λ r. IsAnswer s log (NoBetter j made.values.items) r) is (subst (λ us. IsAnswer s log (NoBetter j us) r) copy answer) in
-    record { reached = reached; before = t; least = a.0; proven = (omega arith, a.1) }
 
 found_better : (s : Setting) (log : Log) (j : ℕ) (vals : List ℕ) (r : Reply) (x : Witness) → r ≡ Found x → IsAnswer s log (NoBetter j vals) r → IsReached s x × IsBetterAt j x.values.items vals
 found_better s log j vals r x e h =
@@ -127,12 +116,6 @@ smaller s log j vals given next r x old new copy read is answer e f =
     let a = found_better s log j vals r x is (subst (λ us. IsAnswer s log (NoBetter j us) r) copy answer) in
     omega (arith, lower_there j x.values.items vals a.1, ap (λ us. slice_index us j) read)
 
--- a witness at hand may be asked to be lowered
-pub may_ask : (s : Setting) (j k : ℕ) (x : Witness) (given : List ℕ) → given ≡ x.values.items → k ≡ slice_index x.values.items j → 1 ≤ k → j < length s.main.levels → IsReached s x → IsAskable s (NoBetter j given)
-may_ask s j k x given copy e lo lt r =
-    let w = r.witness in
-    subst (λ us. IsAskable s (NoBetter j us)) (sym copy) (lt, w.fits, omega arith)
-
 pub fit_long : (values : List ℕ) (levels : List (List ℕ)) → FitLevels values levels → length values ≡ length levels
 fit_long [] [] h = refl
 fit_long [] (l ∷ ls) h = absurd h
@@ -151,9 +134,6 @@ found_there s log j given read r x copy is answer lt = level_there s x j read co
 proven_moved : (s : Setting) (log : Log) (values others : List ℕ) (j k : ℕ) (f : Option ℕ) → take (suc j) others ≡ take (suc j) values → IsProven s log k (NoBetter j values) f → IsProven s log k (NoBetter j others) f
 proven_moved s log values others j k None e p = p
 proven_moved s log values others j k (Some n) e p = (p.0, subst (λ ls. IsRefuting log ls n) (sym (assumed_before (frame_of s.main) j others values e)) p.1)
-
-pub no_levels : (s : Setting) (log : Log) (x : Witness) (fs : List (Option ℕ)) → fs ≡ [] → IsReached s x → AreLowered s log 0 x fs
-no_levels s log x fs e r = record { reached = r; below = λ i lt. absurd (omega arith); proven = none_proven s log (λ j k. NoBetter j x.values.items) (take 0 x.values.items) fs refl e }
 
 -- the steps of the levels before one stay, as the values before it do
 least_to_on : (s : Setting) (a b : Log) (values others : List ℕ) (j : ℕ) (fs : List (Option ℕ)) → IsLonger a b → take j others ≡ take j values → IsLeastTo s a j values fs → IsLeastTo s b j others fs

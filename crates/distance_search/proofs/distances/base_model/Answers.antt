@@ -1,4 +1,4 @@
-use Rattle.distance_search.proofs.Exact.{base_proper, base_refuted, base_found}
+use Rattle.distance_search.proofs.Exact.{base_refuted}
 use Rattle.distance_search.proofs.distances.base_model.Goals as goal
 
 pub unreachable-requires : goal.unreachable-requires
