@@ -41,7 +41,8 @@ pub trait Counted: Distance {
         requires shared_in { InRange clauses.old.vars shared.now }
         requires own_in { InRange clauses.old.vars own.now }
         requires room { clauses.old.vars + counter_room ≤ var_limit }
-        ensures outputs { IfOk result (λ r. r ≡ (due self.now clauses.old.vars shared.now own.now).outputs) }
+        ensures outputs { IfOk result
+            (λ r. r ≡ (due self.now clauses.old.vars shared.now own.now).outputs) }
         ensures vars { OnOk result
             (clauses.new.vars ≡ (due self.now clauses.old.vars shared.now own.now).vars) }
         ensures list { OnOk result (clauses.new.list ≡ clauses.old.list ++ map sorted_clause

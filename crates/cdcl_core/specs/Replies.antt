@@ -1,5 +1,5 @@
 -- What each reply of a solver promises.
-use Rattle.std.specs.Prelude.{◌≡◌, ℕ, ◌<◌, Bool, true, false, List, [], ◌∷◌, ◌++◌, length}
+use Rattle.std.specs.Prelude.{◌≡◌, ℕ, ◌<◌, ◌≤◌, Bool, true, false, List, [], ◌∷◌, ◌++◌, length}
 use Rattle.std.specs.List.{AllByRecursion}
 use Rattle.clause_store.specs.declared.lit.Lit.{Lit}
 use Rattle.clause_store.specs.Truth.{lit_true, values_of, AreTrue}
@@ -25,6 +25,10 @@ pub record IsGrown (old new : Log) (count : ℕ) : Type 0 where
   pub main : new.main ≡ old.main
   pub vars : new.vars ≡ old.vars
   pub steps : (more : List Step) × (new.steps ≡ old.steps ++ more) × AllLearned more × (length more ≡ count)
+
+-- a question that memory was wanting for: the log grew at its end by learned steps alone, at most as many as its budget
+abbrev pub IsBrokenOff : Log → Log → ℕ → Type 0
+IsBrokenOff old new budget = (more : List Step) × (new.steps ≡ old.steps ++ more) × AllLearned more × (length more ≤ budget)
 
 -- a claimed step was appended whose clause refutes the assumptions
 abbrev pub IsClaimed : Log → Log → List Lit → Type 0

@@ -1,8 +1,7 @@
 // Marks on variables, by which conflict analysis knows the clause that it is at.
-ghost use Rattle.std.specs.Prelude.{◌≡◌, ◌+◌, ◌<◌, ◌++◌, ◌∷◌, [], ℕ, Bool, true, false, length, IfOk};
+ghost use Rattle.std.specs.Prelude.{◌≡◌, ◌+◌, ◌<◌, ◌++◌, ◌∷◌, [], ℕ, true, false, length, IfOk};
 ghost use Rattle.std.specs.Prelude.{OnOk, if◌then◌else◌, slice_set};
 ghost use Rattle.clause_store.specs.Lits.{InRange, IsWithin, has, sorted_clause};
-ghost use Rattle.solver_laws.specs.Ready.{IsFalseIn};
 ghost use Rattle.clause_store.specs.declared.lit.Lit.{Lit};
 ghost use Rattle.cdcl_core.specs.Marked.{AreClear, IsAdded, is_but, lower, mark_of, others};
 

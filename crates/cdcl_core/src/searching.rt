@@ -6,7 +6,7 @@ ghost use Rattle.derivation_log.specs.Logs.{known_of};
 ghost use Rattle.watch_lists.specs.Trace.{value_of};
 ghost use Rattle.solver_laws.specs.Ready.{IsReady, IsLog, DecidesOnly};
 ghost use Rattle.cdcl_core.specs.Marked.{AreClear};
-ghost use Rattle.cdcl_core.specs.Replies.{IsAnswered, IsLonger, IsClaimed};
+ghost use Rattle.cdcl_core.specs.Replies.{IsAnswered, IsBrokenOff, IsLonger, IsClaimed};
 
 use crate::analysis::learn;
 use crate::choice::values;
@@ -79,6 +79,7 @@ pub fn search<P: Propagator>(
         (P.followed propagator.new) (P.vars propagator.new) trail.new) }
     ensures rest { OnOk result (trail.new.level ≡ 0) }
     ensures answered { IfOk result (λ reply. IsAnswered log.old log.new assumptions.now budget reply) }
+    ensures broken_off { OnErr result (IsBrokenOff log.old log.new budget) }
     ensures log { IsLog log.new }
     ensures longer { IsLonger log.old log.new }
 {

@@ -6,7 +6,8 @@ ghost use Rattle.clause_store.specs.Lits.{InRange};
 ghost use Rattle.derivation_log.specs.Logs.{known_of, learned_of, IsSound, IsNew};
 ghost use Rattle.watch_lists.specs.Trace.{StandIn, Attached};
 ghost use Rattle.solver_laws.specs.Ready.{IsLog, AllFit};
-ghost use Rattle.cdcl_core.specs.Replies.{IsAnswered, IsJust, IsLonger, IsDecided};
+ghost use Rattle.cdcl_core.specs.Replies.{IsAnswered, IsBrokenOff, IsJust};
+ghost use Rattle.cdcl_core.specs.Replies.{IsLonger, IsDecided};
 ghost use Rattle.cdcl_core.specs.State.{State};
 
 use crate::marks::Marks;
@@ -121,6 +122,11 @@ impl<P: Propagator + Drop> Solver<P> {
             reply) }
         ensures refuted { IfOk result (IsJust self.old.log.main assumptions.now) }
         ensures enough { 3 ^ self.old.log.vars ≤ budget → IfOk result IsDecided }
+
+        // Where memory is wanting, the question's steps are learned ones, at most `budget` of them;
+        // once it was wanting, nothing changes.
+        ensures broken_off { OnErr result (IsBrokenOff self.old.log self.new.log budget) }
+        ensures stays { self.old.failed ≡ true → self.new ≡ self.old }
 
         ensures ok { OnOk result (self.new.failed ≡ false) }
         ensures err { OnErr result (self.new.failed ≡ true) }

@@ -3,7 +3,6 @@ use Rattle.std.proofs.Common.{◌≡◌, ◌≢◌, ℕ, zero, suc, ◌+◌, ◌
 use Rattle.std.specs.Prelude.{slice_index, slice_index_or, nat_eq, if◌then◌else◌, AllPairs}
 use Rattle.std.proofs.lemmas.Bool.Decides.{nat_tests}
 use Rattle.clause_store.specs.declared.lit.Lit.{Lit}
-use Rattle.clause_store.specs.Fresh.{fresh_vars, fresh_lits}
 
 -- how often the variable stands there
 abbrev pub times_in : ℕ → List ℕ → ℕ
@@ -27,10 +26,6 @@ vars_append (l ∷ ls) ms = ap (λ x. l.var ∷ x) (vars_append ls ms)
 
 pub times_vars : (z : ℕ) (ls ms : List Lit) → times_in z (vars_of (ls ++ ms)) ≡ times_in z (vars_of ls) + times_in z (vars_of ms)
 times_vars z ls ms = ap (times_in z) (vars_append ls ms) ∙ times_append z (vars_of ls) (vars_of ms)
-
-pub vars_of-fresh_lits : (v n : ℕ) → vars_of (fresh_lits v n) ≡ fresh_vars v n
-vars_of-fresh_lits v zero = refl
-vars_of-fresh_lits v (suc n) = ap (λ x. (v + 1) ∷ x) (vars_of-fresh_lits (v + 1) n)
 
 -- one place alone
 pub times_place : (z : ℕ) (xs : List ℕ) (k : ℕ) → k < length xs → times_in z (slice_index xs k ∷ []) ≤ times_in z xs

@@ -28,11 +28,13 @@ pub struct Listing<D: Counted + Drop, A: Levelled + Drop> {
     alloc: Global,
     ghost over: { IsOver (setting_of
         (D.dist subject.distance) (D.most subject.distance) (D.due subject.distance)
-        (A.rank subject.aggregator) (A.levels_of subject.aggregator) (A.levels_due subject.aggregator)
+        (A.rank subject.aggregator) (A.levels_of subject.aggregator)
+        (A.levels_due subject.aggregator)
         subject.problem) engine.log },
     ghost known: { ∥ IsBestFor (setting_of
         (D.dist subject.distance) (D.most subject.distance) (D.due subject.distance)
-        (A.rank subject.aggregator) (A.levels_of subject.aggregator) (A.levels_due subject.aggregator)
+        (A.rank subject.aggregator) (A.levels_of subject.aggregator)
+        (A.levels_due subject.aggregator)
         subject.problem) best ∥₁ },
     ghost sized: { ForSome after (λ v. length v ≡ length subject.problem.atoms) },
 }
@@ -74,8 +76,10 @@ impl<D: Counted + Drop, A: Levelled + Drop> Listing<D, A> {
         ensures best { self.new.best ≡ self.old.best }
         ensures longer { IsLonger self.old.engine.log self.new.engine.log }
         ensures answer { MatchResult result
-            (λ next. IsNextListed (⟦<Subject<D, A> as Questions>⟧.setting self.old.subject) self.old.after next)
-            (λ stop. IsHalted self.old.engine.log self.new.engine.log self.old.subject.budget stop) }
+            (λ next. IsNextListed
+            (⟦<Subject<D, A> as Questions>⟧.setting self.old.subject) self.old.after next)
+            (λ stop. IsHalted
+            self.old.engine.log self.new.engine.log self.old.subject.budget stop) }
         ensures place { self.new.after ≡ place_after self.old.after result }
         ensures failed { IsTrue self.new.failed ↔ (result ≡ Err SearchStop.NoMemory) }
         ensures fails_on { IsTrue self.old.failed → result ≡ Err SearchStop.NoMemory }
@@ -101,7 +105,8 @@ impl<D: Counted + Drop, A: Levelled + Drop> Listing<D, A> {
     pub fn derivations(&self) -> &Derivations
         ensures log { result.now ≡ self.now.engine.log }
         ensures sound { IsLog self.now.engine.log }
-        ensures main { IsOver (⟦<Subject<D, A> as Questions>⟧.setting self.now.subject) self.now.engine.log }
+        ensures main { IsOver
+            (⟦<Subject<D, A> as Questions>⟧.setting self.now.subject) self.now.engine.log }
     {
         self.engine.derivations()
     }

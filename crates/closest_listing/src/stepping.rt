@@ -1,5 +1,6 @@
 // The next closest valuation, atom by atom.
-ghost use Rattle.std.specs.Prelude.{◌≡◌, ◌+◌, ◌<◌, ◌≤◌, [], ◌∷◌, ◌++◌, length, take, IfOk, MatchResult};
+ghost use Rattle.std.specs.Prelude.{◌≡◌, ◌+◌, ◌<◌, ◌≤◌, [], ◌∷◌, ◌++◌, length, take, IfOk};
+ghost use Rattle.std.specs.Prelude.{MatchResult};
 ghost use Rattle.std.specs.Option.{ForSome};
 ghost use Rattle.cdcl_core.specs.Replies.{IsLonger};
 ghost use Rattle.distance_search.specs.Setting.{IsOver};

@@ -33,7 +33,8 @@ use std::alloc::Global;
 ///
 /// A call that asks questions answers `GaveUp` where its last question learned as many steps as the budget
 /// allows, with the number of the first of them, and `NoMemory` for want of memory. Once a call has answered
-/// `NoMemory`, every later one does. The log grows at its end alone, also where a call has no answer.
+/// `NoMemory`, every later one does, and nothing changes. The log grows at its end alone, by steps that follow, also
+/// where a call has no answer.
 #[derive(Drop)]
 pub struct Search<D: Counted + Drop, A: Levelled + Drop> {
     subject: Subject<D, A>,
@@ -111,17 +112,21 @@ impl<D: Counted + Drop, A: Levelled + Drop> Search<D, A> {
     pub fn consistency(&mut self) -> Result<Consistency, SearchStop>
         ensures subject { self.new.subject ≡ self.old.subject }
         ensures longer { IsLonger self.old.engine.log self.new.engine.log }
+        ensures sound { IsLog self.new.engine.log }
+        ensures over { IsOver (⟦<Subject<D, A> as Questions>⟧.setting self.old.subject) self.new.engine.log }
         ensures answer { MatchResult result
             (λ found. IsConsistency (⟦<Subject<D, A> as Questions>⟧.setting self.old.subject) self.new.engine.log found)
             (λ stop. IsHalted self.old.engine.log self.new.engine.log self.old.subject.budget stop) }
         ensures failed { IsTrue self.new.failed ↔ (result ≡ Err SearchStop.NoMemory) }
         ensures fails_on { IsTrue self.old.failed → result ≡ Err SearchStop.NoMemory }
+        ensures stays { IsTrue self.old.failed → self.new.engine ≡ self.old.engine }
     {
         if self.failed {
+            self.note(true);
             return Err(SearchStop::NoMemory);
         }
         let outcome = naming::consistency(self.alloc, &self.subject, &mut self.engine);
-        self.failed = is_wanting(&outcome);
+        self.note(is_wanting(&outcome));
         outcome
     }
 
@@ -131,17 +136,21 @@ impl<D: Counted + Drop, A: Levelled + Drop> Search<D, A> {
         requires { IsConsistent (⟦<Subject<D, A> as Questions>⟧.setting self.old.subject) }
         ensures subject { self.new.subject ≡ self.old.subject }
         ensures longer { IsLonger self.old.engine.log self.new.engine.log }
+        ensures sound { IsLog self.new.engine.log }
+        ensures over { IsOver (⟦<Subject<D, A> as Questions>⟧.setting self.old.subject) self.new.engine.log }
         ensures answer { MatchResult result
             (λ best. IsBest (⟦<Subject<D, A> as Questions>⟧.setting self.old.subject) self.new.engine.log best)
             (λ stop. IsHalted self.old.engine.log self.new.engine.log self.old.subject.budget stop) }
         ensures failed { IsTrue self.new.failed ↔ (result ≡ Err SearchStop.NoMemory) }
         ensures fails_on { IsTrue self.old.failed → result ≡ Err SearchStop.NoMemory }
+        ensures stays { IsTrue self.old.failed → self.new.engine ≡ self.old.engine }
     {
         if self.failed {
+            self.note(true);
             return Err(SearchStop::NoMemory);
         }
         let outcome = closest::best(self.alloc, &self.subject, &mut self.engine);
-        self.failed = is_wanting(&outcome);
+        self.note(is_wanting(&outcome));
         outcome
     }
 
@@ -153,18 +162,22 @@ impl<D: Counted + Drop, A: Levelled + Drop> Search<D, A> {
             (profile_of self.old.subject.problem).bases }
         ensures subject { self.new.subject ≡ self.old.subject }
         ensures longer { IsLonger self.old.engine.log self.new.engine.log }
+        ensures sound { IsLog self.new.engine.log }
+        ensures over { IsOver (⟦<Subject<D, A> as Questions>⟧.setting self.old.subject) self.new.engine.log }
         ensures answer { MatchResult result
             (λ away. IsAway (⟦<Subject<D, A> as Questions>⟧.setting self.old.subject) self.new.engine.log away
             × (away.shown.model ≡ model))
             (λ stop. IsHalted self.old.engine.log self.new.engine.log self.old.subject.budget stop) }
         ensures failed { IsTrue self.new.failed ↔ (result ≡ Err SearchStop.NoMemory) }
         ensures fails_on { IsTrue self.old.failed → result ≡ Err SearchStop.NoMemory }
+        ensures stays { IsTrue self.old.failed → self.new.engine ≡ self.old.engine }
     {
         if self.failed {
+            self.note(true);
             return Err(SearchStop::NoMemory);
         }
         let outcome = distances::distances_of(self.alloc, &self.subject, &mut self.engine, model);
-        self.failed = is_wanting(&outcome);
+        self.note(is_wanting(&outcome));
         outcome
     }
 
@@ -175,18 +188,22 @@ impl<D: Counted + Drop, A: Levelled + Drop> Search<D, A> {
         requires best { IsBestFor (⟦<Subject<D, A> as Questions>⟧.setting self.old.subject) best.now }
         ensures subject { self.new.subject ≡ self.old.subject }
         ensures longer { IsLonger self.old.engine.log self.new.engine.log }
+        ensures sound { IsLog self.new.engine.log }
+        ensures over { IsOver (⟦<Subject<D, A> as Questions>⟧.setting self.old.subject) self.new.engine.log }
         ensures answer { MatchResult result
             (λ judged. IsJudged (⟦<Subject<D, A> as Questions>⟧.setting self.old.subject) self.new.engine.log
             ask best.now.values judged)
             (λ stop. IsHalted self.old.engine.log self.new.engine.log self.old.subject.budget stop) }
         ensures failed { IsTrue self.new.failed ↔ (result ≡ Err SearchStop.NoMemory) }
         ensures fails_on { IsTrue self.old.failed → result ≡ Err SearchStop.NoMemory }
+        ensures stays { IsTrue self.old.failed → self.new.engine ≡ self.old.engine }
     {
         if self.failed {
+            self.note(true);
             return Err(SearchStop::NoMemory);
         }
         let outcome = closest::entails(self.alloc, &self.subject, &mut self.engine, best, ask);
-        self.failed = is_wanting(&outcome);
+        self.note(is_wanting(&outcome));
         outcome
     }
 
@@ -201,13 +218,17 @@ impl<D: Counted + Drop, A: Levelled + Drop> Search<D, A> {
         requires best { IsBestFor (⟦<Subject<D, A> as Questions>⟧.setting self.old.subject) best.now }
         ensures subject { self.new.subject ≡ self.old.subject }
         ensures longer { IsLonger self.old.engine.log self.new.engine.log }
+        ensures sound { IsLog self.new.engine.log }
+        ensures over { IsOver (⟦<Subject<D, A> as Questions>⟧.setting self.old.subject) self.new.engine.log }
         ensures answer { MatchResult result
             (λ found. IsWith (⟦<Subject<D, A> as Questions>⟧.setting self.old.subject) prefix.now found)
             (λ stop. IsHalted self.old.engine.log self.new.engine.log self.old.subject.budget stop) }
         ensures failed { IsTrue self.new.failed ↔ (result ≡ Err SearchStop.NoMemory) }
         ensures fails_on { IsTrue self.old.failed → result ≡ Err SearchStop.NoMemory }
+        ensures stays { IsTrue self.old.failed → self.new.engine ≡ self.old.engine }
     {
         if self.failed {
+            self.note(true);
             return Err(SearchStop::NoMemory);
         }
         let outcome = closest::closest_with(
@@ -217,8 +238,19 @@ impl<D: Counted + Drop, A: Levelled + Drop> Search<D, A> {
             best,
             prefix,
         );
-        self.failed = is_wanting(&outcome);
+        self.note(is_wanting(&outcome));
         outcome
+    }
+
+    /// Notes whether memory was wanting. Each step of the log follows then, too.
+    fn note(&mut self, wanting: bool)
+        ensures subject { self.new.subject ≡ self.old.subject }
+        ensures engine { self.new.engine ≡ self.old.engine }
+        ensures failed { self.new.failed ≡ wanting }
+        ensures sound { IsLog self.new.engine.log }
+    {
+        let _ = self.engine.derivations();
+        self.failed = wanting;
     }
 
     /// What the search is about, the solver with its log, and whether memory was wanting.

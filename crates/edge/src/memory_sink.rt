@@ -23,17 +23,24 @@ impl Model for MemorySink {
 
     ghost Value = { Held };
 
-    ghost view = { λ s. record { taken = s.held.items; room = s.room; piece = s.piece; faults = s.faults } };
+    ghost view = { λ s. record {
+      taken = s.held.items;
+      room = s.room;
+      piece = s.piece;
+      faults = s.faults;
+    } };
 
-    ghost invariant = { λ s. (vec_len s.held ≤ s.room) × (s.room ≤ vec_capacity s.held) × (0 < s.piece) };
+    ghost invariant = { λ s. (vec_len s.held ≤ s.room) × (s.room ≤ vec_capacity s.held) ×
+        (0 < s.piece) };
 }
 
 impl MemorySink {
-    /// A sink with room for `room` bytes that takes at most `piece` bytes at a write; `NoMemory` for
-    /// want of memory.
+    /// A sink with room for `room` bytes that takes at most `piece` bytes at a write; `NoMemory`
+    /// for want of memory.
     pub fn new(alloc: Global, room: usize, piece: usize) -> Result<Self, NoMemory>
         requires { 0 < piece }
-        ensures { IfOk result (λ s. s ≡ record { taken = []; room = room; piece = piece; faults = 0 }) }
+        ensures { IfOk result
+            (λ s. s ≡ record { taken = []; room = room; piece = piece; faults = 0 }) }
     {
         Ok(MemorySink {
             held: Vec::with_capacity(alloc, room)?,
@@ -62,8 +69,11 @@ impl Sink for MemorySink {
         ensures cause { HasCause self.old.faults self.new.faults result }
 
         // Which write fails, and how much another takes.
-        ensures fails { IsErr result ↔ ((0 < length piece.now) × (length self.old.taken ≡ self.old.room)) }
-        ensures takes { IfOk result (λ n. n ≡ min (length piece.now) (min self.old.piece (self.old.room - length self.old.taken))) }
+        ensures fails { IsErr result ↔ ((0 < length piece.now) ×
+            (length self.old.taken ≡ self.old.room)) }
+        ensures takes { IfOk result
+            (λ n. n ≡ min (length piece.now)
+            (min self.old.piece (self.old.room - length self.old.taken))) }
         ensures room { self.new.room ≡ self.old.room }
         ensures piece { self.new.piece ≡ self.old.piece }
     {

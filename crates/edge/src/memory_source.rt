@@ -24,7 +24,12 @@ impl Model for MemorySource {
 
     ghost Value = { Stored };
 
-    ghost view = { λ s. record { left = drop s.at s.bytes.items; piece = s.piece; fails_in = s.fails_in; faults = s.faults } };
+    ghost view = { λ s. record {
+      left = drop s.at s.bytes.items;
+      piece = s.piece;
+      fails_in = s.fails_in;
+      faults = s.faults;
+    } };
 
     ghost invariant = { λ s. (s.at ≤ vec_len s.bytes) × (0 < s.piece) };
 }
@@ -34,7 +39,12 @@ impl MemorySource {
     /// from 1, fails and no other; 0 means that none fails.
     pub fn new(bytes: Vec<u8>, piece: usize, fail_at: u64) -> Self
         requires { 0 < piece }
-        ensures { result ≡ record { left = bytes.items; piece = piece; fails_in = fail_at; faults = 0 } }
+        ensures { result ≡ record {
+          left = bytes.items;
+          piece = piece;
+          fails_in = fail_at;
+          faults = 0;
+        } }
     {
         MemorySource {
             bytes,
@@ -61,7 +71,8 @@ impl Source for MemorySource {
 
         // Which read fails, and how much another gives.
         ensures fails { IsErr result ↔ (self.old.fails_in ≡ 1) }
-        ensures count { IfOk result (λ n. n ≡ min (length self.old.left) (min (length into.old) self.old.piece)) }
+        ensures count { IfOk result
+            (λ n. n ≡ min (length self.old.left) (min (length into.old) self.old.piece)) }
         ensures piece { self.new.piece ≡ self.old.piece }
         ensures counted { self.new.fails_in ≡ self.old.fails_in - 1 }
     {

@@ -1,4 +1,4 @@
-ghost use Rattle.std.specs.Prelude.{◌≡◌, ℕ, ◌<◌, List, length, take, Option, IfErr, MatchResult};
+ghost use Rattle.std.specs.Prelude.{ℕ, ◌<◌, List, length, take, Option, IfErr, MatchResult};
 ghost use Rattle.std.specs.Io.KnownBytes.{WriteAppends, Appends};
 ghost use Rattle.edge.specs.Faults.{HasCause};
 ghost use Rattle.edge.specs.Streams.{TakesSome};

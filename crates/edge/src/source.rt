@@ -1,4 +1,5 @@
-ghost use Rattle.std.specs.Prelude.{◌≡◌, ◌≢◌, ℕ, ◌-◌, ◌≤◌, ◌↔◌, List, Option, IfOk, OnOk, OnErr, IsErrOf};
+ghost use Rattle.std.specs.Prelude.{◌≡◌, ◌≢◌, ℕ, ◌-◌, ◌≤◌, ◌↔◌, List, Option, IfOk, OnOk, OnErr};
+ghost use Rattle.std.specs.Prelude.{IsErrOf};
 ghost use Rattle.std.specs.Io.{ReadsAtMost};
 ghost use Rattle.std.specs.Io.KnownBytes.{ReadConsumes, IsAtEnd};
 ghost use Rattle.edge.specs.Faults.{HasCause, Rose};
@@ -55,8 +56,10 @@ pub fn read_all<S: Source>(
     ensures err { OnErr result ((bytes : List ℕ) × Gave (S.left source.old) (S.left source.new)
         (S.room source.old) (S.room source.new) bytes) }
 
-    ensures failed { IsErrOf result ReadStop.Failed → Rose (S.faults source.old) (S.faults source.new) }
-    ensures too_long { (result ≡ Err ReadStop.TooLong) ↔ Exceeds limit (S.room source.old - S.room source.new) }
+    ensures failed { IsErrOf result ReadStop.Failed →
+        Rose (S.faults source.old) (S.faults source.new) }
+    ensures too_long { (result ≡ Err ReadStop.TooLong) ↔ Exceeds limit
+        (S.room source.old - S.room source.new) }
     ensures faults { S.faults source.old ≤ S.faults source.new }
     ensures quiet { result ≢ Err ReadStop.Failed → S.faults source.new ≡ S.faults source.old }
 {

@@ -56,7 +56,9 @@ impl<R: Read> Source for StdSource<R> {
         ensures cause { HasCause self.old.faults self.new.faults result }
 
         // It passes on what the reader gives.
-        ensures passes { IfOk result (λ count. Consumes (R.remaining self.old.input) (R.remaining self.new.input) (take count into.new)) }
+        ensures passes { IfOk result
+            (λ count. Consumes (R.remaining self.old.input) (R.remaining self.new.input)
+            (take count into.new)) }
         ensures end { result ≡ Ok 0 → 0 < length into.new → IsAtEnd (R.remaining self.new.input) }
     {
         if let Ok(count) = self.input.read(into) {
@@ -107,7 +109,9 @@ impl<W: Write> Sink for StdSink<W> {
         ensures cause { HasCause self.old.faults self.new.faults result }
 
         // It passes on what the writer takes.
-        ensures passes { IfOk result (λ count. Appends (W.contents self.old.output) (W.contents self.new.output) (take count piece.now)) }
+        ensures passes { IfOk result
+            (λ count. Appends (W.contents self.old.output) (W.contents self.new.output)
+            (take count piece.now)) }
     {
         if piece.is_empty() {
             return Ok(0);

@@ -89,6 +89,27 @@ fn sends_all_or_what_fits(rt: HostRuntime) -> Result<(), Fail> {
 }
 
 #[test]
+fn planned_calls_fail(rt: HostRuntime) -> Result<(), Fail> {
+    let alloc = rt.alloc();
+    let mut source = MemorySource::with_faults(
+        Vec::from_slice(alloc, b"agent")?,
+        2,
+        Vec::from_slice(alloc, &[1, 3])?,
+    );
+    // The first read and the third fail, and each gives nothing.
+    for want in [Err(ReadStop::Failed), Err(ReadStop::Failed), Ok(3)] {
+        let got = read_all(alloc, &mut source, None).map(|bytes| bytes.len());
+        assert_eq!(rt; got, want);
+    }
+    let mut sink = MemorySink::with_faults(alloc, 6, 2, Vec::from_slice(alloc, &[2])?)?;
+    assert_eq!(rt; send_all(&mut sink, b"agent"), Err(2));
+    assert_eq!(rt; sink.as_slice(), b"ag".as_slice());
+    assert_eq!(rt; send_all(&mut sink, b"agent"), Err(4));
+    assert_eq!(rt; sink.as_slice(), b"agagen".as_slice());
+    Ok(())
+}
+
+#[test]
 fn streams_pass_on_what_the_system_gives(rt: HostRuntime) -> Result<(), Fail> {
     let alloc = rt.alloc();
     let mut source = StdSource::new(Cursor::new(b"atoms a".as_slice()));

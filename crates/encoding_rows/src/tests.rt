@@ -67,7 +67,8 @@ fn one_atom(alloc: Global) -> Result<Atoms, NoMemory>
 }
 
 fn one_agent(alloc: Global) -> Result<Sequence<Agent>, NoMemory>
-    ensures { IfOk result (λ agents. agents ≡ record { name = 112 ∷ []; times = 1; base = Formula.Atom 0 } ∷ []) }
+    ensures { IfOk result
+        (λ agents. agents ≡ record { name = 112 ∷ []; times = 1; base = Formula.Atom 0 } ∷ []) }
 {
     let agent = Agent {
         name: Sequence::from_vec(vec![in alloc; b'p']?),
@@ -99,7 +100,8 @@ const CLAUSES: [i64; 46] = [
     7, 0, 1, 6, -8, 0, -1, -6, -8, 0, -1, 6, 8, 0, 1, -6, 8, 0,
 ];
 
-// The numbers of its variables and clauses for Hamming and the maximum, and for drastic and leximax.
+// The numbers of its variables and clauses for Hamming and the maximum, and for drastic and
+// leximax.
 fn sizes_of_others(alloc: Global) -> Result<[(u32, u64); 2], NoMemory> {
     let problem = small_problem(alloc)?;
     let most = encode(alloc, &problem, &Hamming, &Max)?;

@@ -1,5 +1,6 @@
 // Clauses of a list, each in the row of one of its literals, so that few of them need a look.
-ghost use Rattle.std.specs.Prelude.{◌≡◌, ℕ, ◌+◌, ◌*◌, ◌<◌, ◌≤◌, List, [], ◌∷◌, ◌++◌, length, true, false, IsTrue, IfOk, MatchOption, slice_set, slice_index_or};
+ghost use Rattle.std.specs.Prelude.{◌≡◌, ℕ, ◌+◌, ◌<◌, ◌≤◌, List, [], ◌∷◌, ◌++◌, length, true};
+ghost use Rattle.std.specs.Prelude.{false, IsTrue, IfOk, MatchOption, slice_set, slice_index_or};
 ghost use Rattle.std.specs.List.{list_any};
 ghost use Rattle.clause_store.specs.declared.lit.Lit.{Lit as Literal};
 ghost use Rattle.clause_store.specs.Clauses.{clause_at};
@@ -56,13 +57,14 @@ impl Index {
         })
     }
 
-    /// The clause of a number joins them, which is above theirs. Many clauses share their first literals, and few their
-    /// last.
+    /// The clause of a number joins them, which is above theirs. Many clauses share their first
+    /// literals, and few their last.
     pub fn add(&mut self, known: &ClauseList, number: u64)
         requires index { IsAnIndex self.old known.now }
         requires number { number < length known.now.list }
         ensures { (before : List (List Literal)) → IsIndexOf self.old known.now before number →
-            IsIndexOf self.new known.now (before ++ clause_at known.now.list number ∷ []) (number + 1) }
+            IsIndexOf self.new known.now (before ++ clause_at known.now.list number ∷ [])
+            (number + 1) }
     {
         match known.clause(number).last() {
             None => self.empty = true,
@@ -75,10 +77,12 @@ impl Index {
         requires index { IsAnIndex self.old known.now }
         requires clause { InRange known.now.vars clause.now }
         ensures found { IsTrue result → (before : List (List Literal)) (bound : ℕ) →
-            IsIndexOf self.old known.now before bound → list_any (includes clause.now) before ≡ true }
+            IsIndexOf self.old known.now before bound →
+            list_any (includes clause.now) before ≡ true }
         ensures none { result ≡ false → (before : List (List Literal)) (bound : ℕ) →
             IsIndexOf self.old known.now before bound →
-            (list_any (includes clause.now) before ≡ false) × IsIndexOf self.new known.now before bound }
+            (list_any (includes clause.now) before ≡ false) ×
+            IsIndexOf self.new known.now before bound }
     {
         if self.empty {
             return true;
@@ -91,18 +95,22 @@ impl Index {
         false
     }
 
-    // Whether the clause includes one of the row of its literal. Where it does not, each of the row goes to that of a
-    // literal outside the clause.
+    // Whether the clause includes one of the row of its literal. Where it does not, each of the row
+    // goes to that of a literal outside the clause.
     fn has_in_row(&mut self, known: &ClauseList, clause: &[Lit], lit: Lit) -> bool
         requires index { IsAnIndex self.old known.now }
         requires own { has lit clause.now ≡ true }
         requires within { lit.var ≤ known.now.vars }
         ensures found { IsTrue result → (before : List (List Literal)) (bound : ℕ) →
-            IsIndexOf self.old known.now before bound → list_any (includes clause.now) before ≡ true }
-        ensures none { result ≡ false → (before : List (List Literal)) (bound : ℕ) (lists : List (List ℕ)) →
-            IsIndexed self.old.heads.items self.old.next.items self.old.empty known.now before bound lists →
+            IsIndexOf self.old known.now before bound →
+            list_any (includes clause.now) before ≡ true }
+        ensures none { result ≡ false →
+            (before : List (List Literal)) (bound : ℕ) (lists : List (List ℕ)) →
+            IsIndexed self.old.heads.items self.old.next.items self.old.empty
+            known.now before bound lists →
             (after : List (List ℕ)) ×
-            IsIndexed self.new.heads.items self.new.next.items self.new.empty known.now before bound after ×
+            IsIndexed self.new.heads.items self.new.next.items self.new.empty
+            known.now before bound after ×
             IsEmptied clause.now lit lists after }
     {
         let row = lit.rank() as usize;
@@ -128,7 +136,8 @@ impl Index {
         requires row { row < length self.old.heads.items }
         requires number { number < length self.old.next.items }
         ensures heads { self.new.heads.items ≡ slice_set self.old.heads.items row number }
-        ensures next { self.new.next.items ≡ slice_set self.old.next.items number (slice_index_or self.old.heads.items row 0) }
+        ensures next { self.new.next.items ≡
+            slice_set self.old.next.items number (slice_index_or self.old.heads.items row 0) }
         ensures empty { self.new.empty ≡ self.old.empty }
     {
         self.next[number as usize] = self.heads[row];

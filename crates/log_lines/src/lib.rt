@@ -1,4 +1,5 @@
-//! Step lines over clauses that are known: which are right next, and how a log ends that spent its conflicts.
+//! Step lines over clauses that are known: which are right next, and how a log ends that spent its
+//! conflicts.
 #![tactic(auto)]
 
 mod index;

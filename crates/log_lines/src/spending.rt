@@ -1,5 +1,6 @@
 // Whether the last steps of a log are learned and new.
-ghost use Rattle.std.specs.Prelude.{◌≡◌, ◌+◌, ◌<◌, ◌≤◌, Some, IsTrue, IfOk, length, slice_get, take, drop};
+ghost use Rattle.std.specs.Prelude.{◌≡◌, ◌+◌, ◌<◌, ◌≤◌, Some, IsTrue, IfOk, length, slice_get};
+ghost use Rattle.std.specs.Prelude.{take, drop};
 ghost use Rattle.derivation_log.specs.Logs.{is_learned};
 ghost use Rattle.log_lines.specs.Indexes.{IsIndexOf};
 ghost use Rattle.log_lines.specs.Spending.{Noted as Step, is_new_at, noted_of, earlier, ends_new};
@@ -42,8 +43,10 @@ fn index_main(alloc: Global, known: &ClauseList, main: u64) -> Result<Index, NoM
 fn add_learned(index: &mut Index, known: &ClauseList, main: u64, kinds: &[StepKind], step: usize)
     requires step { step < length kinds.now }
     requires known { main + length kinds.now ≡ length known.now.list }
-    requires index { IsIndexOf index.old known.now (earlier main kinds.now known.now.list step) (main + step) }
-    ensures { IsIndexOf index.new known.now (earlier main kinds.now known.now.list (step + 1)) (main + (step + 1)) }
+    requires index { IsIndexOf index.old known.now (earlier main kinds.now known.now.list step)
+        (main + step) }
+    ensures { IsIndexOf index.new known.now (earlier main kinds.now known.now.list (step + 1))
+        (main + (step + 1)) }
 {
     let _fewer_than_2_to_63 = known.len();
     if !is_kept(kind_at(kinds, step)) {
@@ -62,7 +65,9 @@ fn index_earlier(
 ) -> Result<Index, NoMemory>
     requires steps { steps ≤ length kinds.now }
     requires known { main + length kinds.now ≡ length known.now.list }
-    ensures { IfOk result (λ index. IsIndexOf index known.now (earlier main kinds.now known.now.list steps) (main + steps)) }
+    ensures { IfOk result
+        (λ index. IsIndexOf index known.now (earlier main kinds.now known.now.list steps)
+        (main + steps)) }
 {
     let mut index = index_main(alloc, known, main)?;
     for step in 0..steps {
@@ -71,8 +76,8 @@ fn index_earlier(
     Ok(index)
 }
 
-// Whether the step is learned and includes no main clause and no clause of an earlier learned step. Its clause joins
-// then.
+// Whether the step is learned and includes no main clause and no clause of an earlier learned step.
+// Its clause joins then.
 fn add_new(
     index: &mut Index,
     known: &ClauseList,
@@ -82,10 +87,15 @@ fn add_new(
 ) -> bool
     requires step { step < length kinds.now }
     requires known { main + length kinds.now ≡ length known.now.list }
-    requires index { IsIndexOf index.old known.now (earlier main kinds.now known.now.list step) (main + step) }
-    ensures exact { (s : Step) → slice_get (noted_of kinds.now (drop main known.now.list)) step ≡ Some s →
-        result ≡ is_new_at (take main known.now.list) (noted_of kinds.now (drop main known.now.list)) step s }
-    ensures joined { IsTrue result → IsIndexOf index.new known.now (earlier main kinds.now known.now.list (step + 1)) (main + (step + 1)) }
+    requires index { IsIndexOf index.old known.now (earlier main kinds.now known.now.list step)
+        (main + step) }
+    ensures exact { (s : Step) →
+        slice_get (noted_of kinds.now (drop main known.now.list)) step ≡ Some s →
+        result ≡ is_new_at (take main known.now.list)
+        (noted_of kinds.now (drop main known.now.list)) step s }
+    ensures joined { IsTrue result →
+        IsIndexOf index.new known.now (earlier main kinds.now known.now.list (step + 1))
+        (main + (step + 1)) }
 {
     let _fewer_than_2_to_63 = known.len();
     if !is_kept(kind_at(kinds, step)) {
@@ -99,9 +109,10 @@ fn add_new(
     true
 }
 
-/// Whether the last steps of a log, so many, are learned and include no main clause and no clause of an earlier
-/// learned step. The known clauses are the main ones, so many, and then one for each step, of these kinds. `NoMemory`
-/// for want of memory, and where there are 2^32 - 1 clauses or more.
+/// Whether the last steps of a log, so many, are learned and include no main clause and no clause
+/// of an earlier learned step. The known clauses are the main ones, so many, and then one for each
+/// step, of these kinds. `NoMemory` for want of memory, and where there are 2^32 - 1 clauses or
+/// more.
 pub fn are_last_new(
     alloc: Global,
     known: &ClauseList,
@@ -111,7 +122,9 @@ pub fn are_last_new(
 ) -> Result<bool, NoMemory>
     requires count { count ≤ length kinds.now }
     requires known { main + length kinds.now ≡ length known.now.list }
-    ensures { IfOk result (λ new. new ≡ ends_new count (take main known.now.list) (noted_of kinds.now (drop main known.now.list))) }
+    ensures { IfOk result
+        (λ new. new ≡ ends_new count (take main known.now.list)
+        (noted_of kinds.now (drop main known.now.list))) }
 {
     let first = kinds.len() - count;
     let mut index = index_earlier(alloc, known, main, kinds, first)?;

@@ -31,9 +31,9 @@ fn are_within(lits: &[Lit], vars: u32) -> bool
     true
 }
 
-/// Takes a step line in: its step's clause joins the known clauses. A line is taken exactly where it is right next:
-/// its step has the next number, its literals rise and are over the known variables, and it follows. A refusal
-/// changes nothing.
+/// Takes a step line in: its step's clause joins the known clauses. A line is taken exactly where
+/// it is right next: its step has the next number, its literals rise and are over the known
+/// variables, and it follows. A refusal changes nothing.
 pub fn take_step(alloc: Global, known: &mut ClauseList, line: &[u8]) -> Result<StepKind, TakeStop>
     ensures taken { IsTaken known.old line.now known.new result }
     ensures err { OnErr result (known.new ≡ known.old) }
@@ -64,7 +64,8 @@ pub fn take_step(alloc: Global, known: &mut ClauseList, line: &[u8]) -> Result<S
     }
 }
 
-/// A step without a verdict against it follows, and the step of the line that a step is written as is that step.
+/// A step without a verdict against it follows, and the step of the line that a step is written as
+/// is that step.
 pub fn step_law()
     ensures follows { FollowsLaw }
     ensures narrow { NarrowLaw }

@@ -1,12 +1,14 @@
 // What claims assume.
 
-ghost use Rattle.std.specs.Prelude.{◌≡◌, ◌≢◌, ℕ, ◌-◌, ◌<◌, ◌≤◌, [], ◌∷◌, ◌++◌, length, map, slice_index, IfOk, OnOk, AllPairs};
+ghost use Rattle.std.specs.Prelude.{◌≡◌, ◌≢◌, ℕ, ◌-◌, ◌<◌, ◌≤◌, [], ◌∷◌, ◌++◌, length, map};
+ghost use Rattle.std.specs.Prelude.{slice_index, IfOk, OnOk, AllPairs};
 ghost use Rattle.agent_copies.specs.declared.copy.AgentCopy.{AgentCopy as Copy};
 ghost use Rattle.clause_store.specs.Lits.{negative_lit, InRange};
 ghost use Rattle.aggregators.specs.Levels.{FitLevels};
 ghost use Rattle.merge_encoding.specs.Frames.{roots_in, IsFrameOver, FrameIsDistinct};
 ghost use Rattle.merge_encoding.specs.Claims.{said};
-ghost use Rattle.merge_encoding.specs.Assumptions.{signed, at_most_lits, each_at_most, better_lits, assumed_in, IsProperIn};
+ghost use Rattle.merge_encoding.specs.Assumptions.{signed, at_most_lits, each_at_most, better_lits};
+ghost use Rattle.merge_encoding.specs.Assumptions.{assumed_in, IsProperIn};
 
 use crate::claim::Claim;
 use crate::frame::Frame;

@@ -1,6 +1,6 @@
 // From a problem to its main clauses.
 
-ghost use Rattle.std.specs.Prelude.{◌≡◌, ℕ, ◌+◌, ◌*◌, ◌<◌, ◌≤◌, ◌^◌, [], ◌∷◌, ◌++◌, length, map, sum_by, All, IfOk, OnOk};
+ghost use Rattle.std.specs.Prelude.{◌≡◌, ◌+◌, ◌*◌, ◌≤◌, ◌++◌, length, map, sum_by, All, IfOk, OnOk};
 ghost use Rattle.clause_store.specs.Limits.{var_limit};
 ghost use Rattle.clause_store.specs.Lits.{positive_lit, sorted_clause, InRange};
 ghost use Rattle.formulas.specs.Limits.{node_limit, valuation_limit};

@@ -9,7 +9,8 @@ ghost use Rattle.merge_encoding.specs.declared.frame.Frame.{Frame as Place};
 ghost use Rattle.merge_encoding.specs.MainDues.{main_due, owns_of, IsLimited, IsMain};
 ghost use Rattle.merge_encoding.specs.Frames.{frame_of, IsFrameOver, FrameIsDistinct};
 ghost use Rattle.merge_encoding.specs.Claims.{Assertion, NoBetter, IsTrueThat, Breaks};
-ghost use Rattle.merge_encoding.specs.Assumptions.{assumed_in, assumed, IsProper, AllTrue, NoneSatisfies};
+ghost use Rattle.merge_encoding.specs.Assumptions.{assumed_in, assumed, IsProper, AllTrue};
+ghost use Rattle.merge_encoding.specs.Assumptions.{NoneSatisfies};
 
 use agent_copies::Counted;
 use aggregators::Levelled;

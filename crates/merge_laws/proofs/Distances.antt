@@ -10,6 +10,7 @@ use Rattle.merge_model.specs.Plain.{nearest_of}
 use Rattle.merge_model.proofs.Among.{Among, least_le, among_map, model_among, words_size}
 use Rattle.merge_model.proofs.Fulls.{IsBounded, away_within}
 use Rattle.merge_model.proofs.Nearest.{nearest_shown}
+use Rattle.ranks.specs.Limits.{distance_limit}
 use Rattle.merge_laws.specs.Operators.{IsGroup, HaveSameModels}
 use Rattle.merge_laws.proofs.Laws.{IsReflexive, IsApart}
 
@@ -72,7 +73,7 @@ module _ (dist : List Bool → List Bool → ℕ) where
   pub vector_small : IsBounded dist → (n : ℕ) (E F : List Formula) (v : List Bool) → IsGroup n E → length v ≡ n → All (λ k. k ≤ 4096) (vector_of dist F v)
   vector_small bounded n E F v group size =
       All-map (λ k. k ≤ 4096) (away dist v) F
-      (λ i f within. away_within dist 4096 v _ (λ w same. bounded v w same (rw size group.some_atom) (rw size group.few_atoms)))
+      (λ i f within. away_within dist distance_limit v _ (λ w same. bounded v w same (rw size group.some_atom) (rw size group.few_atoms)))
 
   models_near : IsReflexive dist → (n : ℕ) (E : List Formula) (v : List Bool) → length v ≡ n → All (λ f. IsModel n f v) E → All (λ f. away dist v f ≡ 0) E
   models_near same n E v size h =

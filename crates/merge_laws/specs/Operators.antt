@@ -4,6 +4,7 @@ use Rattle.std.specs.List.{AllZip}
 use Rattle.std.specs.List.Sorted.{IsPermutation}
 use Rattle.formulas.specs.declared.formula.Formula.{Formula}
 use Rattle.formulas.specs.Formulas.{holds}
+use Rattle.formulas.specs.Limits.{valuation_limit}
 use Rattle.merge_model.specs.Merging.{IsClosest}
 
 -- over so many atoms, for a constraint and a list of bases: which valuations result
@@ -14,10 +15,10 @@ Operator = ℕ → Formula → List Formula → List Bool → Type 0
 abbrev pub merging : (List Bool → List Bool → ℕ) → (List ℕ → List ℕ) → Operator
 merging dist rank n c E = IsClosest dist rank (record { atoms = n; constraint = c; times = map (λ _. 1) E; bases = E })
 
--- from 1 to 64 atoms, and at least one base
+-- from 1 to `valuation_limit` atoms, and at least one base
 pub record IsGroup (n : ℕ) (E : List Formula) : Type 0 where
   pub some_atom : 1 ≤ n
-  pub few_atoms : n ≤ 64
+  pub few_atoms : n ≤ valuation_limit
   pub some_base : E ≢ []
 
 -- two formulas have the same models

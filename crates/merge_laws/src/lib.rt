@@ -1,11 +1,14 @@
 //! The merging postulates of Konieczny and Pino Pérez, of every distance and every aggregator.
 //!
-//! Each law is the contract of a function that does nothing. M(c,E) stands for the closest valuations
-//! for the constraint c and the list E of bases, over 1 to 64 atoms: `merging` of the specs.
+//! Each law is the contract of a function that does nothing. M(c,E) stands for the closest
+//! valuations for the constraint c and the list E of bases, over 1 to 64 atoms: `merging` of the
+//! specs.
 #![tactic(auto)]
 
 ghost use Rattle.merge_laws.specs.Operators.{merging};
-ghost use Rattle.merge_laws.specs.Postulates.{KeepsTheConstraint, HasAMember, IsConjunction, IgnoresWording, IsFair, KeepsAgreement, KeepsToAgreement, KeepsUnderMore, KeepsToUnderMore};
+ghost use Rattle.merge_laws.specs.Postulates.{KeepsTheConstraint, HasAMember, IsConjunction};
+ghost use Rattle.merge_laws.specs.Postulates.{IgnoresWording, IsFair, KeepsAgreement};
+ghost use Rattle.merge_laws.specs.Postulates.{KeepsToAgreement, KeepsUnderMore, KeepsToUnderMore};
 
 use merge_model::{Aggregator, Distance, StrictAggregator};
 

@@ -18,10 +18,6 @@ least_le x (y ∷ []) (inr h) = absurd h
 least_le x (y ∷ z ∷ zs) (inl e) = omega arith
 least_le x (y ∷ z ∷ zs) (inr h) = omega (arith, least_le x (z ∷ zs) h)
 
-pub least_ge : (k y : ℕ) (ys : List ℕ) → ((x : ℕ) → Among x (y ∷ ys) → k ≤ x) → k ≤ least_of (y ∷ ys)
-least_ge k y [] h = h y (inl refl)
-least_ge k y (z ∷ zs) h = omega (arith, h y (inl refl), least_ge k z zs (λ x m. h x (inr m)))
-
 pub among_map : {X Y : Type 0} (f : X → Y) (x : X) (xs : List X) → Among x xs → Among (f x) (map f xs)
 among_map f x [] h = absurd h
 among_map f x (y ∷ ys) (inl e) = inl (ap f e)

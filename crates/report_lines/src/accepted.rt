@@ -10,11 +10,15 @@ use log_checker::log_law;
 use merge_encoding::{claim_law, frame_law};
 use merge_model::{AggregatorName, DistanceName, Drastic, Hamming, Leximax, Max, Sum};
 
-/// The answer of an accepted report is right where it merges, and names the formulas that have no model where it does
-/// not, whoever wrote the report.
+/// The answer of an accepted report is right where it merges, and names the formulas that have no
+/// model where it does not, whoever wrote the report.
 pub fn accepted_law<D: Counted, A: Levelled>(distance: &D, aggregator: &A)
-    ensures { (parts : Parts) → AreAccepted (operator (D.dist distance.now) (D.most distance.now) (D.due distance.now) (A.rank aggregator.now) (A.levels_of aggregator.now) (A.levels_due aggregator.now)) parts →
-        IsRight (D.dist distance.now) (A.rank aggregator.now) parts.problem parts.answer ⊎ IsNamed parts.problem parts.answer }
+    ensures { (parts : Parts) →
+        AreAccepted (operator (D.dist distance.now) (D.most distance.now) (D.due distance.now)
+        (A.rank aggregator.now) (A.levels_of aggregator.now)
+        (A.levels_due aggregator.now)) parts →
+        IsRight (D.dist distance.now) (A.rank aggregator.now) parts.problem parts.answer ⊎
+        IsNamed parts.problem parts.answer }
 {
     frame_law(distance, aggregator);
     claim_law(distance, aggregator);
@@ -23,8 +27,11 @@ pub fn accepted_law<D: Counted, A: Levelled>(distance: &D, aggregator: &A)
 
 /// The same, by the names of the distance and of the aggregator.
 pub fn accepted_named(distance: DistanceName, aggregator: AggregatorName)
-    ensures { (parts : Parts) → AreAccepted (operator_named distance aggregator parts.problem.atoms) parts →
-        IsRight (dist_named distance parts.problem.atoms) (rank_named aggregator) parts.problem parts.answer ⊎ IsNamed parts.problem parts.answer }
+    ensures { (parts : Parts) →
+        AreAccepted (operator_named distance aggregator parts.problem.atoms) parts →
+        IsRight (dist_named distance parts.problem.atoms)
+        (rank_named aggregator) parts.problem parts.answer ⊎
+        IsNamed parts.problem parts.answer }
 {
     match (distance, aggregator) {
         (DistanceName::Drastic, AggregatorName::Sum) => accepted_law(&Drastic, &Sum),

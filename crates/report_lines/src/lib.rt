@@ -1,5 +1,5 @@
-//! The lines of a report: which are due after those before, what must hold of each, what stands after it, and which
-//! whole texts are accepted.
+//! The lines of a report: which are due after those before, what must hold of each, what stands
+//! after it, and which whole texts are accepted.
 #![tactic(auto)]
 
 mod accepted;

@@ -1,5 +1,6 @@
 // Lines by themselves: whether a line has the words of an item, and what it says then.
-ghost use Rattle.std.specs.Prelude.{◌≡◌, ◌≢◌, ◌↔◌, ◌+◌, ◌≤◌, ℕ, Bool, List, [], ◌∷◌, ◌++◌, IsTrue, IfSome, IfNone, false, codes, decimal};
+ghost use Rattle.std.specs.Prelude.{◌≡◌, ◌≢◌, ◌↔◌, ◌+◌, ◌≤◌, ℕ, Bool, List, [], ◌∷◌, ◌++◌, IsTrue};
+ghost use Rattle.std.specs.Prelude.{IfSome, IfNone, false, codes, decimal};
 ghost use Rattle.report_words.specs.Numbers.{HasNumeral};
 ghost use Rattle.report_words.specs.Words.{words_of};
 ghost use Rattle.merge_encoding.specs.Claims.{said};
@@ -41,7 +42,8 @@ pub fn takes(words: &mut Words<'_>, word: &[u8]) -> bool
 // Takes a number, where one is next.
 fn takes_number(words: &mut Words<'_>) -> Option<u64>
     ensures some { IfSome result (λ n. (words.old ≡ decimal n ∷ words.new) × HasNumeral n) }
-    ensures none { IfNone result ((n : ℕ) (rest : List (List ℕ)) → HasNumeral n → words.old ≢ decimal n ∷ rest) }
+    ensures none { IfNone result ((n : ℕ) (rest : List (List ℕ)) → HasNumeral n →
+        words.old ≢ decimal n ∷ rest) }
 {
     number_of(words.next()?)
 }
@@ -57,7 +59,8 @@ fn takes_this(words: &mut Words<'_>, n: u64) -> bool
     }
 }
 
-// Takes the number after this one, where it is next: what is numbered from 0 has its number from 1 in a line.
+// Takes the number after this one, where it is next: what is numbered from 0 has its number from 1
+// in a line.
 fn takes_next(words: &mut Words<'_>, n: usize) -> bool
     ensures yes { IsTrue result → words.old ≡ decimal (n + 1) ∷ words.new }
     ensures no { result ≡ false → (rest : List (List ℕ)) → words.old ≢ decimal (n + 1) ∷ rest }
@@ -134,25 +137,33 @@ fn aggregator_of(word: &[u8]) -> Option<AggregatorName>
 
 /// The distance that a line names; `None` exactly where the line names none.
 pub fn distance_line(line: &[u8]) -> Option<DistanceName>
-    ensures some { IfSome result (λ d. words_of line.now ≡ codes "distance" ∷ distance_word d ∷ []) }
-    ensures none { IfNone result ((d : DName) → words_of line.now ≢ codes "distance" ∷ distance_word d ∷ []) }
+    ensures some { IfSome result
+        (λ d. words_of line.now ≡ codes "distance" ∷ distance_word d ∷ []) }
+    ensures none { IfNone result ((d : DName) →
+        words_of line.now ≢ codes "distance" ∷ distance_word d ∷ []) }
 {
     distance_of(second_word(line, b"distance")?)
 }
 
 /// The aggregator that a line names; `None` exactly where the line names none.
 pub fn aggregator_line(line: &[u8]) -> Option<AggregatorName>
-    ensures some { IfSome result (λ a. words_of line.now ≡ codes "aggregator" ∷ aggregator_word a ∷ []) }
-    ensures none { IfNone result ((a : AName) → words_of line.now ≢ codes "aggregator" ∷ aggregator_word a ∷ []) }
+    ensures some { IfSome result
+        (λ a. words_of line.now ≡ codes "aggregator" ∷ aggregator_word a ∷ []) }
+    ensures none { IfNone result ((a : AName) →
+        words_of line.now ≢ codes "aggregator" ∷ aggregator_word a ∷ []) }
 {
     aggregator_of(second_word(line, b"aggregator")?)
 }
 
-/// The number of conflicts that a line states; `None` exactly where it states none from 1 to the limit.
+/// The number of conflicts that a line states; `None` exactly where it states none from 1 to the
+/// limit.
 #[tactic(auto, using(std::proofs::lemmas::Fmt::decimal_injective))]
 pub fn conflicts_line(line: &[u8]) -> Option<u64>
-    ensures some { IfSome result (λ b. (words_of line.now ≡ codes "conflicts" ∷ decimal b ∷ []) × (1 ≤ b) × (b ≤ conflict_limit)) }
-    ensures none { IfNone result ((b : ℕ) → 1 ≤ b → b ≤ conflict_limit → words_of line.now ≢ codes "conflicts" ∷ decimal b ∷ []) }
+    ensures some { IfSome result
+        (λ b. (words_of line.now ≡ codes "conflicts" ∷ decimal b ∷ []) × (1 ≤ b) ×
+        (b ≤ conflict_limit)) }
+    ensures none { IfNone result ((b : ℕ) → 1 ≤ b → b ≤ conflict_limit →
+        words_of line.now ≢ codes "conflicts" ∷ decimal b ∷ []) }
 {
     let mut words = Words::new(line);
     if !takes(&mut words, b"conflicts") {
@@ -171,8 +182,11 @@ pub fn conflicts_line(line: &[u8]) -> Option<u64>
 
 /// The numbers of variables and of clauses on a `main` line; `None` exactly where the line is none.
 pub fn main_line(line: &[u8]) -> Option<(u64, u64)>
-    ensures some { IfSome result (λ x. (words_of line.now ≡ codes "main" ∷ decimal x.0 ∷ decimal x.1 ∷ []) × HasNumeral x.0 × HasNumeral x.1) }
-    ensures none { IfNone result ((v c : ℕ) → HasNumeral v → HasNumeral c → words_of line.now ≢ codes "main" ∷ decimal v ∷ decimal c ∷ []) }
+    ensures some { IfSome result
+        (λ x. (words_of line.now ≡ codes "main" ∷ decimal x.0 ∷ decimal x.1 ∷ []) × HasNumeral x.0 ×
+        HasNumeral x.1) }
+    ensures none { IfNone result ((v c : ℕ) → HasNumeral v → HasNumeral c →
+        words_of line.now ≢ codes "main" ∷ decimal v ∷ decimal c ∷ []) }
 {
     let mut words = Words::new(line);
     if !takes(&mut words, b"main") {
@@ -197,10 +211,13 @@ fn yes_of(word: &[u8]) -> Option<bool>
     }
 }
 
-/// The verdict that a line gives on a query, numbered from 0; `None` exactly where it gives none on it.
+/// The verdict that a line gives on a query, numbered from 0; `None` exactly where it gives none on
+/// it.
 pub fn verdict_line(line: &[u8], query: usize) -> Option<bool>
-    ensures some { IfSome result (λ b. words_of line.now ≡ codes "verdict" ∷ decimal (query + 1) ∷ yes_word b ∷ []) }
-    ensures none { IfNone result ((b : Bool) → words_of line.now ≢ codes "verdict" ∷ decimal (query + 1) ∷ yes_word b ∷ []) }
+    ensures some { IfSome result
+        (λ b. words_of line.now ≡ codes "verdict" ∷ decimal (query + 1) ∷ yes_word b ∷ []) }
+    ensures none { IfNone result ((b : Bool) →
+        words_of line.now ≢ codes "verdict" ∷ decimal (query + 1) ∷ yes_word b ∷ []) }
 {
     let mut words = Words::new(line);
     if !takes(&mut words, b"verdict") || !takes_next(&mut words, query) {
@@ -216,7 +233,8 @@ pub fn verdict_line(line: &[u8], query: usize) -> Option<bool>
 // Takes the words of a subject, where they are next.
 pub fn takes_subject(words: &mut Words<'_>, subject: Subject) -> bool
     ensures yes { IsTrue result → words.old ≡ subject_words subject ++ words.new }
-    ensures no { result ≡ false → (rest : List (List ℕ)) → words.old ≢ subject_words subject ++ rest }
+    ensures no { result ≡ false → (rest : List (List ℕ)) →
+        words.old ≢ subject_words subject ++ rest }
 {
     match subject {
         Subject::TheConstraint => takes(words, b"constraint"),
@@ -242,7 +260,8 @@ pub fn is_no_model_line(line: &[u8], subject: Subject) -> bool
 // Takes the words of a claim on a shown model, where they are next.
 fn takes_claim(words: &mut Words<'_>, model: u64, claim: &Claim) -> bool
     ensures yes { IsTrue result → words.old ≡ claim_words model (said claim.now) ++ words.new }
-    ensures no { result ≡ false → (rest : List (List ℕ)) → words.old ≢ claim_words model (said claim.now) ++ rest }
+    ensures no { result ≡ false → (rest : List (List ℕ)) →
+        words.old ≢ claim_words model (said claim.now) ++ rest }
 {
     match claim {
         Claim::NoModelOfConstraint => takes(words, b"constraint"),
@@ -256,10 +275,16 @@ fn takes_claim(words: &mut Words<'_>, model: u64, claim: &Claim) -> bool
     }
 }
 
-/// The number of the step that a line shows for a claim on a shown model; `None` exactly where it shows none for it.
+/// The number of the step that a line shows for a claim on a shown model; `None` exactly where it
+/// shows none for it.
 pub fn shown_line(line: &[u8], model: u64, claim: &Claim) -> Option<u64>
-    ensures some { IfSome result (λ n. (words_of line.now ≡ codes "shown" ∷ (claim_words model (said claim.now) ++ decimal n ∷ [])) × HasNumeral n) }
-    ensures none { IfNone result ((n : ℕ) → HasNumeral n → words_of line.now ≢ codes "shown" ∷ (claim_words model (said claim.now) ++ decimal n ∷ [])) }
+    ensures some { IfSome result
+        (λ n. (words_of line.now ≡
+        codes "shown" ∷ (claim_words model (said claim.now) ++ decimal n ∷ [])) ×
+        HasNumeral n) }
+    ensures none { IfNone result ((n : ℕ) → HasNumeral n →
+        words_of line.now ≢ codes "shown" ∷
+        (claim_words model (said claim.now) ++ decimal n ∷ [])) }
 {
     let mut words = Words::new(line);
     if !takes(&mut words, b"shown") {

@@ -9,8 +9,8 @@ pub enum Proof {
     Constraint(u64),
     /// No valuation satisfies the base of this agent, by this step.
     Base(usize, u64),
-    /// No model of an agent's base is nearer to a shown model than the vector says: the number of the
-    /// shown model (0 for the first, else that of the query from 1), the agent, the step.
+    /// No model of an agent's base is nearer to a shown model than the vector says: the number of
+    /// the shown model (0 for the first, else that of the query from 1), the agent, the step.
     Far(usize, usize, u64),
     /// Nothing is better first at this level, by this step.
     Least(usize, u64),

@@ -1,8 +1,10 @@
 // Rows of numbers and valuations in lines.
-ghost use Rattle.std.specs.Prelude.{◌≡◌, ◌≢◌, ◌≤◌, ℕ, Bool, List, [], ◌∷◌, ◌++◌, IfSome, IfNone, IfOk, MatchOption, None, Some, codes, decimal, map, length};
+ghost use Rattle.std.specs.Prelude.{◌≡◌, ◌≢◌, ◌≤◌, ℕ, Bool, List, [], ◌∷◌, ◌++◌, IfSome, IfNone};
+ghost use Rattle.std.specs.Prelude.{IfOk, MatchOption, None, Some, codes, decimal, map, length};
 ghost use Rattle.std.specs.List.{AllByRecursion};
 ghost use Rattle.report_words.specs.Numbers.{HasNumeral, number_at};
 ghost use Rattle.report_words.specs.Words.{words_of};
+ghost use Rattle.formulas.specs.Limits.{valuation_limit};
 ghost use Rattle.formula_text.specs.ValuationWords.{valuation_word};
 ghost use Rattle.report_lines.specs.Items.{subject_words};
 ghost use Rattle.report_lines.specs.LineReading.{bit_at, valuation_at, each_at};
@@ -26,7 +28,7 @@ fn bit_of(byte: u8) -> Option<bool>
 
 #[tactic(auto, unfolding(crate::specs::LineReading::valuation_at))]
 fn spelled(word: &[u8], atoms: u32) -> Option<Valuation>
-    requires { atoms ≤ 64 }
+    requires { atoms ≤ valuation_limit }
     ensures { result ≡ valuation_at atoms word.now }
 {
     if word.len() != atoms as usize {
@@ -42,28 +44,35 @@ fn spelled(word: &[u8], atoms: u32) -> Option<Valuation>
 
 /// The valuation over so many atoms that a word spells; `None` exactly where the word is none.
 pub fn valuation_of(word: &[u8], atoms: u32) -> Option<Valuation>
-    requires { atoms ≤ 64 }
+    requires { atoms ≤ valuation_limit }
     ensures exact { result ≡ valuation_at atoms word.now }
     ensures found { IfSome result (λ v. (word.now ≡ valuation_word v) × (length v ≡ atoms)) }
-    ensures none { IfNone result ((v : List Bool) → length v ≡ atoms → word.now ≢ valuation_word v) }
+    ensures none { IfNone result ((v : List Bool) → length v ≡ atoms →
+        word.now ≢ valuation_word v) }
 {
     spelled(word, atoms)
 }
 
 /// The model that a line shows; `None` exactly where the line shows none over so many atoms.
 pub fn model_line(line: &[u8], atoms: u32) -> Option<Valuation>
-    requires { atoms ≤ 64 }
-    ensures some { IfSome result (λ v. (words_of line.now ≡ codes "model" ∷ valuation_word v ∷ []) × (length v ≡ atoms)) }
-    ensures none { IfNone result ((v : List Bool) → length v ≡ atoms → words_of line.now ≢ codes "model" ∷ valuation_word v ∷ []) }
+    requires { atoms ≤ valuation_limit }
+    ensures some { IfSome result
+        (λ v. (words_of line.now ≡ codes "model" ∷ valuation_word v ∷ []) × (length v ≡ atoms)) }
+    ensures none { IfNone result ((v : List Bool) → length v ≡ atoms →
+        words_of line.now ≢ codes "model" ∷ valuation_word v ∷ []) }
 {
     valuation_of(second_word(line, b"model")?, atoms)
 }
 
 /// The model that a line shows of a subject; `None` exactly where it shows none over so many atoms.
 pub fn has_model_line(line: &[u8], subject: Subject, atoms: u32) -> Option<Valuation>
-    requires { atoms ≤ 64 }
-    ensures some { IfSome result (λ v. (words_of line.now ≡ codes "has-model" ∷ (subject_words subject ++ valuation_word v ∷ [])) × (length v ≡ atoms)) }
-    ensures none { IfNone result ((v : List Bool) → length v ≡ atoms → words_of line.now ≢ codes "has-model" ∷ (subject_words subject ++ valuation_word v ∷ [])) }
+    requires { atoms ≤ valuation_limit }
+    ensures some { IfSome result
+        (λ v. (words_of line.now ≡
+        codes "has-model" ∷ (subject_words subject ++ valuation_word v ∷ [])) ×
+        (length v ≡ atoms)) }
+    ensures none { IfNone result ((v : List Bool) → length v ≡ atoms →
+        words_of line.now ≢ codes "has-model" ∷ (subject_words subject ++ valuation_word v ∷ [])) }
 {
     let mut words = Words::new(line);
     if !takes(&mut words, b"has-model") {
@@ -81,7 +90,9 @@ pub fn has_model_line(line: &[u8], subject: Subject, atoms: u32) -> Option<Valua
 
 #[tactic(auto, unfolding(crate::specs::LineReading::each_at))]
 fn numbers(alloc: Global, words: &mut Words<'_>) -> Result<Option<Vec<u64>>, NoMemory>
-    ensures { IfOk result (λ found. MatchOption found (each_at number_at words.old ≡ None) (λ v. each_at number_at words.old ≡ Some v.items)) }
+    ensures { IfOk result
+        (λ found. MatchOption found (each_at number_at words.old ≡ None)
+        (λ v. each_at number_at words.old ≡ Some v.items)) }
 {
     let mut all = Vec::new(alloc);
     while let Some(word) = words.next() {
@@ -99,8 +110,10 @@ fn valuations(
     words: &mut Words<'_>,
     atoms: u32,
 ) -> Result<Option<Vec<Valuation>>, NoMemory>
-    requires { atoms ≤ 64 }
-    ensures { IfOk result (λ found. MatchOption found (each_at (valuation_at atoms) words.old ≡ None) (λ v. each_at (valuation_at atoms) words.old ≡ Some v.items)) }
+    requires { atoms ≤ valuation_limit }
+    ensures { IfOk result
+        (λ found. MatchOption found (each_at (valuation_at atoms) words.old ≡ None)
+        (λ v. each_at (valuation_at atoms) words.old ≡ Some v.items)) }
 {
     let mut all = Vec::new(alloc);
     while let Some(word) = words.next() {
@@ -120,8 +133,10 @@ pub fn numbers_line(
     count: usize,
 ) -> Result<Option<Vec<u64>>, NoMemory>
     ensures { IfOk result (λ found. MatchOption found
-        ((ns : List ℕ) → length ns ≡ count → AllByRecursion HasNumeral ns → words_of line.now ≢ first.now ∷ map decimal ns)
-        (λ v. (words_of line.now ≡ first.now ∷ map decimal v.items) × (length v.items ≡ count) × AllByRecursion HasNumeral v.items)) }
+        ((ns : List ℕ) → length ns ≡ count → AllByRecursion HasNumeral ns →
+        words_of line.now ≢ first.now ∷ map decimal ns)
+        (λ v. (words_of line.now ≡ first.now ∷ map decimal v.items) × (length v.items ≡ count) ×
+        AllByRecursion HasNumeral v.items)) }
 {
     let mut words = Words::new(line);
     if !takes(&mut words, first) {
@@ -136,17 +151,20 @@ pub fn numbers_line(
     Ok(Some(all))
 }
 
-/// The nearest models that a line shows, so many; none exactly where it does not show so many over so many atoms.
+/// The nearest models that a line shows, so many; none exactly where it does not show so many over
+/// so many atoms.
 pub fn nearest_line(
     alloc: Global,
     line: &[u8],
     atoms: u32,
     count: usize,
 ) -> Result<Option<Vec<Valuation>>, NoMemory>
-    requires { atoms ≤ 64 }
+    requires { atoms ≤ valuation_limit }
     ensures { IfOk result (λ found. MatchOption found
-        ((ws : List (List Bool)) → length ws ≡ count → AllByRecursion (λ w. length w ≡ atoms) ws → words_of line.now ≢ codes "nearest" ∷ map valuation_word ws)
-        (λ v. (words_of line.now ≡ codes "nearest" ∷ map valuation_word v.items) × (length v.items ≡ count) × AllByRecursion (λ w. length w ≡ atoms) v.items)) }
+        ((ws : List (List Bool)) → length ws ≡ count → AllByRecursion (λ w. length w ≡ atoms) ws →
+        words_of line.now ≢ codes "nearest" ∷ map valuation_word ws)
+        (λ v. (words_of line.now ≡ codes "nearest" ∷ map valuation_word v.items) ×
+        (length v.items ≡ count) × AllByRecursion (λ w. length w ≡ atoms) v.items)) }
 {
     let mut words = Words::new(line);
     if !takes(&mut words, b"nearest") {

@@ -1,6 +1,7 @@
 // Numbers of 1 to 19 digits, and literals.
-ghost use Rattle.std.specs.Prelude.{◌≡◌, ◌≢◌, ℕ, ◌<◌, ◌^◌, IfSome, IfNone, decimal};
-ghost use Rattle.report_words.specs.Numbers.{digits_from, number_at, literal_at, literal_word, IsLiteral, HasNumeral, signed};
+ghost use Rattle.std.specs.Prelude.{◌≡◌, ◌≢◌, ℕ, IfSome, IfNone, decimal};
+ghost use Rattle.report_words.specs.Numbers.{digits_from, number_at, literal_at, literal_word};
+ghost use Rattle.report_words.specs.Numbers.{IsLiteral, HasNumeral, signed};
 ghost use Rattle.std.specs.Option.{option_and_then};
 ghost use Rattle.report_words.specs.declared.numbers.WideLit.{WideLit as Literal};
 
@@ -38,8 +39,8 @@ fn numeral(word: &[u8]) -> Option<u64>
     }
 }
 
-/// The number that a word spells: `0`, or 1 to 19 digits that do not begin with `0`. `None` exactly where the word is
-/// no such number.
+/// The number that a word spells: `0`, or 1 to 19 digits that do not begin with `0`. `None` exactly
+/// where the word is no such number.
 pub fn number_of(word: &[u8]) -> Option<u64>
     ensures exact { result ≡ number_at word.now }
     ensures found { IfSome result (λ n. (word.now ≡ decimal n) × HasNumeral n) }
@@ -69,8 +70,8 @@ fn spelled(word: &[u8]) -> Option<WideLit>
     }
 }
 
-/// The literal that a word spells: a number other than 0, with `-` before it where the literal is negative. `None`
-/// exactly where the word is no such literal.
+/// The literal that a word spells: a number other than 0, with `-` before it where the literal is
+/// negative. `None` exactly where the word is no such literal.
 pub fn literal_of(word: &[u8]) -> Option<WideLit>
     ensures exact { result ≡ literal_at word.now }
     ensures found { IfSome result (λ l. (word.now ≡ literal_word l) × IsLiteral l) }

@@ -4,8 +4,8 @@ ghost use Rattle.report_words.specs.Words.{words_of};
 
 use std::marker::Model;
 
-/// The words of a line that are not yet taken. Between two words stands one blank, so that two blanks have an empty
-/// word between them.
+/// The words of a line that are not yet taken. Between two words stands one blank, so that two
+/// blanks have an empty word between them.
 #[derive(Drop)]
 pub struct Words<'a> {
     rest: &'a [u8],
@@ -47,7 +47,8 @@ impl<'a> Words<'a> {
 
     /// The next word; `None` exactly where none is left.
     pub fn next(&mut self) -> Option<&'a [u8]>
-        ensures { MatchOption result ((self.old ≡ []) × (self.new ≡ [])) (λ w. self.old ≡ w.now ∷ self.new) }
+        ensures { MatchOption result ((self.old ≡ []) × (self.new ≡ []))
+            (λ w. self.old ≡ w.now ∷ self.new) }
     {
         if self.over {
             return None;

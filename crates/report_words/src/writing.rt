@@ -1,5 +1,6 @@
-// Writers: each appends its text at once. Where memory is refused, a part of the text from its start stays.
-ghost use Rattle.std.specs.Prelude.{◌≡◌, ◌∷◌, ◌++◌, [], map, codes, decimal, OnErr};
+// Writers: each appends its text at once. Where memory is refused, a part of the text from its
+// start stays.
+ghost use Rattle.std.specs.Prelude.{◌≡◌, ◌∷◌, ◌++◌, map, codes, decimal, OnErr};
 ghost use Rattle.report_words.specs.Numbers.{literal_word};
 ghost use Rattle.report_words.specs.Words.{later_text, line_of};
 ghost use Rattle.report_words.specs.Writing.{Writes};
@@ -55,7 +56,8 @@ pub fn write_literal(literal: WideLit, into: &mut Vec<u8>) -> Result<(), NoMemor
 
 /// Appends words, each behind a blank.
 pub fn write_words(words: &[&[u8]], into: &mut Vec<u8>) -> Result<(), NoMemory>
-    ensures { Writes result into.old.items into.new.items (later_text (map (λ word. word.now) words.now)) }
+    ensures { Writes result into.old.items into.new.items (later_text (map
+        (λ word. word.now) words.now)) }
 {
     for word in words {
         write_word(word, into)?;
@@ -65,7 +67,8 @@ pub fn write_words(words: &[&[u8]], into: &mut Vec<u8>) -> Result<(), NoMemory>
 
 /// Appends the line of a word and the words after it, with its line feed.
 pub fn write_line(first: &[u8], rest: &[&[u8]], into: &mut Vec<u8>) -> Result<(), NoMemory>
-    ensures { Writes result into.old.items into.new.items (line_of (first.now ∷ map (λ word. word.now) rest.now) ++ codes "\n") }
+    ensures { Writes result into.old.items into.new.items (line_of (first.now ∷ map
+        (λ word. word.now) rest.now) ++ codes "\n") }
 {
     write_bytes(first, into)?;
     write_words(rest, into)?;

@@ -74,10 +74,6 @@ tops_pos low es zero t = absurd (subst (Tops low) (drop_all es) t)
     drop_all (x ∷ xs) = let e : length (x ∷ xs) - 0 ≡ suc (length xs - 0) = omega arith in ap (λ (n : ℕ). drop n (x ∷ xs)) e ∙ drop_all xs
 tops_pos low es (suc n) t = omega arith
 
--- the whole list's values are those of its end
-pub walk_whole : (vars k : ℕ) (es : List Entry) (c : List Lit) → AreApart vars es → AllByRecursion (IsFalseIn (oldest k es)) c → AllByRecursion (IsFalseIn es) c
-walk_whole vars k es c a e = each_map (IsFalseIn (oldest k es)) (IsFalseIn es) c (λ l f. drop_false vars (length es - k) es l a f) e
-
 has_reason : (low es : List Entry) (e : Entry) (n : ℕ) → Tops low (e ∷ es) → e.reason ≡ Some n → Tops low es
 has_reason low es e n t r = elim t [ inl d ↦ (let z = sym d.0 ∙ r in absurd (cc)) | inr i ↦ i.1 ]
 

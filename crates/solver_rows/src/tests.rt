@@ -1,5 +1,5 @@
-// What the solver answers to worked questions by scanning and by watched literals, and that each step of
-// its logs follows.
+// What the solver answers to worked questions by scanning and by watched literals, and that each
+// step of its logs follows.
 use crate::questions;
 use std::test::Fail;
 use watch_lists::{Scan, Watches};

@@ -172,7 +172,8 @@ pub fn plus(
     requires left_in { AreVarsWithin clauses.old.vars left.now }
     requires right_in { AreVarsWithin clauses.old.vars right.now }
     requires room { (plus_due clauses.old.vars left.now right.now).vars ≤ var_limit }
-    ensures outputs { IfOk result (λ r. r ≡ (plus_due clauses.old.vars left.now right.now).outputs) }
+    ensures outputs { IfOk result
+        (λ r. r ≡ (plus_due clauses.old.vars left.now right.now).outputs) }
     ensures vars { OnOk result
         (clauses.new.vars ≡ (plus_due clauses.old.vars left.now right.now).vars) }
     ensures list { OnOk result (clauses.new.list ≡ clauses.old.list ++ map sorted_clause

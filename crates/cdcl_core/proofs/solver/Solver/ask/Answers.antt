@@ -1,6 +1,6 @@
-use Rattle.std.proofs.Common.{◌≡◌, ap, subst}
+use Rattle.std.proofs.Common.{◌≡◌, ap, subst, rules}
 use Rattle.derivation_log.specs.Logs.{Log, is_learned}
-use Rattle.cdcl_core.specs.Replies.{IsAnswered}
+use Rattle.cdcl_core.specs.Replies.{IsAnswered, IsBrokenOff}
 use Rattle.std.proofs.Common.{ℕ, ◌≤◌, List, [], ◌∷◌, ◌++◌, length, refl, arith, suc, inl, inr, sym, ◌∙◌}
 use Rattle.std.specs.Prelude.{◌^◌, Contains}
 use Rattle.std.proofs.lemmas.Bool.{cases_Bool}
@@ -83,3 +83,8 @@ just old new asked budget (Refuted n) l a = λ v s t. (
 
 pub returns-clause-refuted : goal.returns-clause-refuted
 returns-clause-refuted g c = just c.args.self.now.log c.search.new.log c.args.assumptions.now c.args.budget c.in_ok-reply.reply c.search.ensures.log.sound (returns-clause-answered g c)
+
+pub returns-in_err-reply-clause-broken_off : goal.returns-in_err-reply-clause-broken_off
+returns-in_err-reply-clause-broken_off g c =
+    let h : IsBrokenOff c.args.self.now.log c.search.new.log c.args.budget = subst (λ (x : Log). IsBrokenOff x c.search.new.log c.args.budget) (ap (λ (s : State). s.log) c.self.view_is) c.in_err-reply.ensures.broken_off in
+    search rules
