@@ -26,14 +26,17 @@ pub struct Index {
     empty: bool,
 }
 
-// The first literal of a clause that is not in the other.
+// The last literal of a clause that is not in the other: many clauses share their first literals,
+// and few their last.
 fn outside(inner: &[Lit], outer: &[Lit]) -> Option<Lit>
     ensures { MatchOption result (includes outer.now inner.now ≡ true)
         (λ l. (has l inner.now ≡ true) × (has l outer.now ≡ false)) }
 {
-    for lit in inner {
-        if !has_lit(outer, *lit) {
-            return Some(*lit);
+    let mut at = inner.len();
+    while at > 0 {
+        at -= 1;
+        if !has_lit(outer, inner[at]) {
+            return Some(inner[at]);
         }
     }
     None
