@@ -41,9 +41,6 @@ is_clean w = list_all is_inner w
 abbrev are_clean : List (List ℕ) → Bool
 are_clean ws = list_all is_clean ws
 
-both_clean : (v w : List ℕ) → is_clean v ≡ true → is_clean w ≡ true → is_clean (v ++ w) ≡ true
-both_clean v w h k = list_all-append is_inner v w ∙ and_both (is_clean v) (is_clean w) h k
-
 all_clean : (vs ws : List (List ℕ)) → are_clean vs ≡ true → are_clean ws ≡ true → are_clean (vs ++ ws) ≡ true
 all_clean vs ws h k = list_all-append is_clean vs ws ∙ and_both (are_clean vs) (are_clean ws) h k
 

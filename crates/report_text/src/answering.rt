@@ -2,7 +2,8 @@
 ghost use Rattle.std.specs.Prelude.{◌≡◌, ◌≢◌, ◌⊎◌, ◌↔◌, IsTrue, IfOk, OnOk, OnErr};
 ghost use Rattle.report_lines.specs.Following.{due_after_verdicts};
 ghost use Rattle.report_lines.specs.Places.{Position as Place, start};
-ghost use Rattle.report_text.specs.Answering.{draft_of, position_of, StandsAtAnswer, AnswerAt, IsFit, IsLoggedAt};
+ghost use Rattle.report_text.specs.Answering.{draft_of, position_of, StandsAtAnswer, AnswerAt};
+ghost use Rattle.report_text.specs.Answering.{IsFit, IsLoggedAt};
 ghost use Rattle.report_text.specs.Judging.{JudgedAs};
 
 mod claims;
@@ -46,7 +47,8 @@ pub struct Answering {
     claims: Vec<Claimed>,
 }
 
-/// What stands once an answer is over: the main clauses and their frame, and the claims that are due.
+/// What stands once an answer is over: the main clauses and their frame, and the claims that are
+/// due.
 #[derive(Drop)]
 pub struct Logged {
     /// The main clauses.
@@ -115,7 +117,8 @@ impl Answering {
     pub fn line(&mut self, line: &[u8]) -> Result<(), LineStop>
         requires open { self.old.due ≢ Due.Main }
         requires fit { IsFit self.old }
-        ensures judged { (p : Place) → StandsAtAnswer self.old p → JudgedAs (AnswerAt p.due p) p line.now (StandsAtAnswer self.new) result }
+        ensures judged { (p : Place) → StandsAtAnswer self.old p →
+            JudgedAs (AnswerAt p.due p) p line.now (StandsAtAnswer self.new) result }
         ensures fit { OnOk result (IsFit self.new) }
         ensures kept { OnErr result (position_of self.new ≡ position_of self.old) }
     {
@@ -138,11 +141,13 @@ impl Answering {
         self.due == Due::Main
     }
 
-    /// What the log stands on: the main clauses with their frame, and the claims, each proper for them.
+    /// What the log stands on: the main clauses with their frame, and the claims, each proper for
+    /// them.
     pub fn finish(self) -> Result<Logged, NoMemory>
         requires done { self.due ≡ Due.Main }
         requires fit { IsFit self }
-        ensures { IfOk result (λ logged. (p : Place) → StandsAtAnswer self p → IsLoggedAt p logged) }
+        ensures { IfOk result
+            (λ logged. (p : Place) → StandsAtAnswer self p → IsLoggedAt p logged) }
     {
         let Main { clauses, frame } = encoded(
             self.alloc,

@@ -4,7 +4,8 @@ ghost use Rattle.report_lines.specs.Places.{Position, start};
 ghost use Rattle.report_text.specs.Front.{StandsAtFront, IsAnswerDue, LeavesAnswers};
 ghost use Rattle.report_text.specs.Answering.{IsFit as IsFitAnswer};
 ghost use Rattle.report_text.specs.Logging.{IsFitLog, StandsAtLog};
-ghost use Rattle.report_text.specs.Checker.{Stands, StandsInAnswer, IsFit, IsOver, IsNext, IsOutcome};
+ghost use Rattle.report_text.specs.Checker.{Stands, StandsInAnswer, IsFit, IsOver, IsNext};
+ghost use Rattle.report_text.specs.Checker.{IsOutcome};
 
 use crate::answering::Answering;
 use crate::front::Front;

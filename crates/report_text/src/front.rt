@@ -1,5 +1,5 @@
 // The lines of a report before the answer: the head, and the problem.
-ghost use Rattle.std.specs.Prelude.{◌≡◌, ℕ, true, false};
+ghost use Rattle.std.specs.Prelude.{◌≡◌, true, false};
 ghost use Rattle.report_lines.specs.declared.kinds.Due.TheVariants as due;
 ghost use Rattle.report_lines.specs.Places.{Position, DueAt, IsProblemLine, start};
 ghost use Rattle.report_text.specs.Front.{StandsAtFront, takes, word_before, Precedes};
@@ -64,7 +64,8 @@ impl Front {
         }
     }
 
-    /// Whether the line is to be judged here. Where it is not, it can only be the first of the answer.
+    /// Whether the line is to be judged here. Where it is not, it can only be the first of the
+    /// answer.
     pub fn takes(&self, line: &[u8]) -> bool
         ensures test { result ≡ takes self.now.due line.now }
         ensures answer { result ≡ false → IsAnswerDue self.now.due }

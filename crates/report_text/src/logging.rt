@@ -1,5 +1,6 @@
 // The log of a report, its proofs and its end, line by line.
-ghost use Rattle.std.specs.Prelude.{◌≡◌, ◌≢◌, ◌↔◌, ◌+◌, ◌<◌, ◌≤◌, ◌==◌, ◌&&◌, IfOk, IsTrue, MatchOption, length, take, drop};
+ghost use Rattle.std.specs.Prelude.{◌≡◌, ◌≢◌, ◌↔◌, ◌+◌, ◌<◌, ◌≤◌, ◌==◌, ◌&&◌, IfOk, IsTrue};
+ghost use Rattle.std.specs.Prelude.{MatchOption, length, take, drop};
 ghost use Rattle.log_lines.specs.Spending.{noted_of, is_spent};
 ghost use Rattle.merge_encoding.specs.Assumptions.{IsProperIn, assumed_in};
 ghost use Rattle.merge_encoding.specs.Claims.{said};
@@ -71,7 +72,9 @@ fn shows(
     number: u64,
 ) -> Result<bool, NoMemory>
     requires { IsProperIn frame.now (said claim.now) }
-    ensures { IfOk result (λ yes. yes ≡ refutes_from main known.now.list number (assumed_in frame.now (said claim.now))) }
+    ensures { IfOk result
+        (λ yes. yes
+        ≡ refutes_from main known.now.list number (assumed_in frame.now (said claim.now))) }
 {
     if number < main {
         return Ok(false);
@@ -92,7 +95,10 @@ fn has_spent(
     conflicts: u64,
 ) -> Result<bool, NoMemory>
     requires { main + length kinds.now ≡ length known.now.list }
-    ensures { IfOk result (λ yes. yes ≡ is_spent conflicts (take main known.now.list) (noted_of kinds.now (drop main known.now.list))) }
+    ensures { IfOk result
+        (λ yes. yes
+        ≡ is_spent conflicts (take main known.now.list)
+        (noted_of kinds.now (drop main known.now.list))) }
 {
     if (kinds.len() as u64) < conflicts {
         return Ok(false);
@@ -136,7 +142,8 @@ impl Logging {
 
     /// What is accepted, once the report is over.
     pub fn outcome(&self) -> Option<Kind>
-        ensures { MatchOption result (self.now.due ≢ LogDue.Over) (λ kind. (self.now.due ≡ LogDue.Over) × (kind ≡ self.now.kind)) }
+        ensures { MatchOption result (self.now.due ≢ LogDue.Over)
+            (λ kind. (self.now.due ≡ LogDue.Over) × (kind ≡ self.now.kind)) }
     {
         if self.is_over() {
             Some(self.kind)
@@ -153,7 +160,8 @@ impl Logging {
     }
 
     fn on_main(&mut self, line: &[u8]) -> Result<(), LineStop>
-        ensures { (p : Position) → StandsAtLog self.old p → JudgedAs (DueAt due.Main p) p line.now (StandsAtLog self.new) result }
+        ensures { (p : Position) → StandsAtLog self.old p →
+            JudgedAs (DueAt due.Main p) p line.now (StandsAtLog self.new) result }
     {
         let Some((vars, clauses)) = main_line(line) else {
             return Err(LineStop::Wrong(RefusedKind::Form));
@@ -168,7 +176,8 @@ impl Logging {
     fn on_shown(&mut self, line: &[u8]) -> Result<(), LineStop>
         requires some { self.old.next < length self.old.claims.items }
         requires fit { IsFitLog self.old }
-        ensures { (p : Position) → StandsAtLog self.old p → JudgedAs (IsProofLine p.claims p.kind) p line.now (StandsAtLog self.new) result }
+        ensures { (p : Position) → StandsAtLog self.old p →
+            JudgedAs (IsProofLine p.claims p.kind) p line.now (StandsAtLog self.new) result }
     {
         let alloc = *self.claims.allocator();
         let claim = &self.claims[self.next];
@@ -193,7 +202,8 @@ impl Logging {
     // Whether the end may come.
     fn may_end(&self) -> Result<bool, NoMemory>
         requires { IsFitLog self.now }
-        ensures { IfOk result (λ yes. (p : Position) → StandsAtLog self.now p → yes ≡ is_end p.kind p) }
+        ensures { IfOk result
+            (λ yes. (p : Position) → StandsAtLog self.now p → yes ≡ is_end p.kind p) }
     {
         match self.kind {
             Kind::Merged => Ok(true),
@@ -211,7 +221,8 @@ impl Logging {
     fn on_end(&mut self, line: &[u8]) -> Result<(), LineStop>
         requires none { length self.old.claims.items ≤ self.old.next }
         requires fit { IsFitLog self.old }
-        ensures { (p : Position) → StandsAtLog self.old p → JudgedAs (IsProofLine p.claims p.kind) p line.now (StandsAtLog self.new) result }
+        ensures { (p : Position) → StandsAtLog self.old p →
+            JudgedAs (IsProofLine p.claims p.kind) p line.now (StandsAtLog self.new) result }
     {
         if !is_end_line(line, number_of_end(self.kind)) {
             return Err(LineStop::Wrong(RefusedKind::Form));
@@ -225,7 +236,8 @@ impl Logging {
 
     fn on_proof(&mut self, line: &[u8]) -> Result<(), LineStop>
         requires { IsFitLog self.old }
-        ensures { (p : Position) → StandsAtLog self.old p → JudgedAs (IsProofLine p.claims p.kind) p line.now (StandsAtLog self.new) result }
+        ensures { (p : Position) → StandsAtLog self.old p →
+            JudgedAs (IsProofLine p.claims p.kind) p line.now (StandsAtLog self.new) result }
     {
         if self.next < self.claims.len() {
             self.on_shown(line)
@@ -236,7 +248,8 @@ impl Logging {
 
     fn on_log(&mut self, line: &[u8]) -> Result<(), LineStop>
         requires { IsFitLog self.old }
-        ensures { (p : Position) → StandsAtLog self.old p → JudgedAs (DueAt due.Log p) p line.now (StandsAtLog self.new) result }
+        ensures { (p : Position) → StandsAtLog self.old p →
+            JudgedAs (DueAt due.Log p) p line.now (StandsAtLog self.new) result }
     {
         let alloc = *self.kinds.allocator();
         if self.kinds.reserve(1).is_err() {
@@ -257,7 +270,8 @@ impl Logging {
     pub fn line(&mut self, line: &[u8]) -> Result<(), LineStop>
         requires due { self.old.due ≢ LogDue.Over }
         requires fit { IsFitLog self.old }
-        ensures { (p : Position) → StandsAtLog self.old p → IsJudged p line.now (StandsAtLog self.new) result }
+        ensures { (p : Position) → StandsAtLog self.old p →
+            IsJudged p line.now (StandsAtLog self.new) result }
     {
         match self.due {
             LogDue::Main => self.on_main(line),

@@ -4,8 +4,8 @@ ghost use Rattle.report_text.specs.PartsLaws.{OnePartsLaw, PartsLaw};
 use merge_model::{AggregatorName, DistanceName};
 use report_lines::accepted_named;
 
-/// An accepted text has the parts of a report: where it merges or names formulas, its parts are accepted, and so its
-/// answer is right; where it gave up, its log is spent.
+/// An accepted text has the parts of a report: where it merges or names formulas, its parts are
+/// accepted, and so its answer is right; where it gave up, its log is spent.
 pub fn accepted_has_parts()
     ensures { PartsLaw }
 {

@@ -1,11 +1,12 @@
-// The text of a report. Each writer appends its text at once; on `NoMemory` what was appended is a part of the text
-// from its start.
+// The text of a report. Each writer appends its text at once; on `NoMemory` what was appended is a
+// part of the text from its start.
 ghost use Rattle.std.specs.Prelude.{◌≡◌, ◌∷◌, [], length, map, decimal};
 ghost use Rattle.std.specs.List.{flat_map};
 ghost use Rattle.report_words.specs.Words.{later_text};
 ghost use Rattle.report_words.specs.Writing.{Writes};
 ghost use Rattle.report_lines.specs.Items.{MainLine, EndLine};
-ghost use Rattle.report_lines.specs.Parts.{HaveLines, items_text, step_items, log_items, report_text, kind_of_answer};
+ghost use Rattle.report_lines.specs.Parts.{HaveLines, items_text, step_items, log_items};
+ghost use Rattle.report_lines.specs.Parts.{report_text, kind_of_answer};
 ghost use Rattle.report_lines.specs.Places.{end_number as number_of_end};
 ghost use Rattle.report_lines.specs.Reports.{IsReport, asked_in, parts_in};
 ghost use Rattle.report_text.specs.WritingItems.{proof_text, proof_words};
@@ -20,8 +21,8 @@ use merge_model::Answer;
 use report_lines::{Proof, Report};
 use report_words::{write_bytes, write_line, write_word};
 
-/// Appends the text of a report, whose steps have lines; on `NoMemory` what was appended is a part of it from its
-/// start.
+/// Appends the text of a report, whose steps have lines; on `NoMemory` what was appended is a part
+/// of it from its start.
 pub fn write_report(report: &Report, into: &mut Vec<u8>) -> Result<(), NoMemory>
     requires whole { IsReport report.now }
     requires lines { HaveLines (length report.now.derivations.main) report.now.derivations.steps }

@@ -10,8 +10,8 @@ use merge_encoding::Claim;
 use merge_model::Sequence;
 use std::alloc::Global;
 
-/// A claim that a step is to prove, and which shown model it is on: 0 for the first or for none, else the number of a
-/// query from 1.
+/// A claim that a step is to prove, and which shown model it is on: 0 for the first or for none,
+/// else the number of a query from 1.
 #[derive(Debug, Drop)]
 pub struct Claimed {
     /// The number of the shown model.
@@ -27,7 +27,8 @@ pub fn far_claims(
     model: Valuation,
     vector: &[u32],
 ) -> Result<Vec<Claimed>, NoMemory>
-    ensures { IfOk result (λ claims. map due_claim claims.items ≡ far_claims number model vector.now) }
+    ensures { IfOk result
+        (λ claims. map due_claim claims.items ≡ far_claims number model vector.now) }
 {
     let mut claims = Vec::new(alloc);
     for (agent, distance) in vector.iter().enumerate() {

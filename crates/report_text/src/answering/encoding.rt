@@ -24,11 +24,13 @@ pub fn encoded(
     ensures vars { IfOk result (λ main. main.clauses.vars ≡
         (main_named distance aggregator (profile_of problem.now) problem.now.asks).vars) }
     ensures list { IfOk result (λ main. main.clauses.list ≡
-        map sorted_clause (main_named distance aggregator (profile_of problem.now) problem.now.asks).clauses) }
+        map sorted_clause (main_named distance aggregator
+        (profile_of problem.now) problem.now.asks).clauses) }
     ensures over { IfOk result (λ main. IsFrameOver main.clauses.vars main.frame) }
     ensures means { IsMain (dist_named distance problem.now.atoms)
         (most_named distance problem.now.atoms (length problem.now.atoms)) (values_named aggregator)
-        (profile_of problem.now) problem.now.asks (main_named distance aggregator (profile_of problem.now) problem.now.asks) }
+        (profile_of problem.now) problem.now.asks
+        (main_named distance aggregator (profile_of problem.now) problem.now.asks) }
 {
     match (distance, aggregator) {
         (DistanceName::Drastic, AggregatorName::Sum) => encode(alloc, problem, &Drastic, &Sum),

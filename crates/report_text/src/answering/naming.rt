@@ -1,5 +1,6 @@
 // The lines that name formulas without a model, and the first line of an answer.
-ghost use Rattle.std.specs.Prelude.{◌≡◌, ◌≢◌, ◌<◌, ◌≤◌, ◌⊎◌, ℕ, List, ◌∷◌, false, length, IsTrue, OnOk, OnErr};
+ghost use Rattle.std.specs.Prelude.{◌≡◌, ◌≢◌, ◌≤◌, ◌⊎◌, ℕ, List, ◌∷◌, false, length, IsTrue};
+ghost use Rattle.std.specs.Prelude.{OnOk, OnErr};
 ghost use Rattle.formulas.specs.Formulas.{width_of};
 ghost use Rattle.merge_encoding.specs.Claims.{said};
 ghost use Rattle.report_words.specs.Words.{words_of};
@@ -8,7 +9,8 @@ ghost use Rattle.report_lines.specs.Following.{after_named, due_after_named};
 ghost use Rattle.report_lines.specs.Holding.{formula_at, holds, may_name, named_with};
 ghost use Rattle.report_lines.specs.Items.{GaveUpLine, HasModelLine, NoModelLine};
 ghost use Rattle.report_lines.specs.Places.{IsAnswerLine, IsNamedLine};
-ghost use Rattle.report_text.specs.Answering.{position_of, StandsAtAnswer, IsFirst, IsSubjectAt, AreProperAt, IsFit};
+ghost use Rattle.report_text.specs.Answering.{position_of, StandsAtAnswer, IsFirst, IsSubjectAt};
+ghost use Rattle.report_text.specs.Answering.{AreProperAt, IsFit};
 ghost use Rattle.report_text.specs.Judging.{JudgedAs};
 ghost use Rattle.report_text.specs.Taking.{Takes};
 
@@ -78,7 +80,8 @@ impl Answering {
         }
     }
 
-    /// Whether the subject may have a model: another formula has none, or an agent is still to be named.
+    /// Whether the subject may have a model: another formula has none, or an agent is still to be
+    /// named.
     fn may_name(&self, subject: Subject) -> bool
         requires { IsSubjectAt (position_of self.now) subject }
         ensures { result ≡ may_name (position_of self.now) subject }
@@ -111,7 +114,8 @@ impl Answering {
     fn take_lack(&mut self, subject: Subject) -> Result<(), LineStop>
         requires subject { IsSubjectAt (position_of self.old) subject }
         requires claims { AreProperAt (position_of self.old) }
-        ensures taken { Takes (position_of self.old) (NoModelLine subject) (StandsAtAnswer self.new) result }
+        ensures taken { Takes (position_of self.old) (NoModelLine subject)
+            (StandsAtAnswer self.new) result }
         ensures fit { OnOk result (IsFit self.new) }
         ensures kept { OnErr result (position_of self.new ≡ position_of self.old) }
     {
@@ -128,7 +132,8 @@ impl Answering {
     pub(crate) fn on_named(&mut self, line: &[u8], subject: Subject) -> Result<(), LineStop>
         requires subject { IsSubjectAt (position_of self.old) subject }
         requires claims { AreProperAt (position_of self.old) }
-        ensures judged { JudgedAs (IsNamedLine (position_of self.old) subject) (position_of self.old) line.now (StandsAtAnswer self.new) result }
+        ensures judged { JudgedAs (IsNamedLine (position_of self.old) subject)
+            (position_of self.old) line.now (StandsAtAnswer self.new) result }
         ensures fit { OnOk result (IsFit self.new) }
         ensures kept { OnErr result (position_of self.new ≡ position_of self.old) }
     {
@@ -148,7 +153,11 @@ impl Answering {
     /// That the search gave up, or whether the constraint has a model.
     fn on_other(&mut self, line: &[u8]) -> Result<(), LineStop>
         requires claims { AreProperAt (position_of self.old) }
-        ensures judged { JudgedAs (λ x. IsNamedLine (position_of self.old) Subject.TheConstraint x ⊎ (x ≡ GaveUpLine)) (position_of self.old) line.now (StandsAtAnswer self.new) result }
+        ensures judged { JudgedAs
+            (λ x. IsNamedLine
+            (position_of self.old) Subject.TheConstraint x ⊎
+            (x ≡ GaveUpLine)) (position_of self.old) line.now
+            (StandsAtAnswer self.new) result }
         ensures fit { OnOk result (IsFit self.new) }
         ensures kept { OnErr result (position_of self.new ≡ position_of self.old) }
     {
@@ -164,7 +173,8 @@ impl Answering {
     pub(crate) fn on_answer(&mut self, line: &[u8]) -> Result<(), LineStop>
         requires place { IsFirst self.old }
         requires claims { AreProperAt (position_of self.old) }
-        ensures judged { JudgedAs (IsAnswerLine (position_of self.old)) (position_of self.old) line.now (StandsAtAnswer self.new) result }
+        ensures judged { JudgedAs (IsAnswerLine (position_of self.old))
+            (position_of self.old) line.now (StandsAtAnswer self.new) result }
         ensures fit { OnOk result (IsFit self.new) }
         ensures kept { OnErr result (position_of self.new ≡ position_of self.old) }
     {

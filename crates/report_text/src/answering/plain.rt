@@ -1,5 +1,6 @@
 // What plain evaluation says of an answer's lines.
-ghost use Rattle.std.specs.Prelude.{◌≡◌, ◌≤◌, ◌==◌, ◌&&◌, length, map, All, IfOk, MatchOption, nat_le, false, true};
+ghost use Rattle.std.specs.Prelude.{◌≡◌, ◌≤◌, ◌==◌, ◌&&◌, length, map, All, IfOk, MatchOption};
+ghost use Rattle.std.specs.Prelude.{nat_le, false, true};
 ghost use Rattle.std.specs.List.{list_all};
 ghost use Rattle.std.specs.Str.{bytes_eq};
 ghost use Rattle.formulas.specs.Formulas.{holds, width_of};
@@ -71,7 +72,8 @@ pub fn values_of(
 pub fn narrowed(alloc: Global, numbers: &[u64], top: u32) -> Result<Option<Vec<u32>>, NoMemory>
     ensures { IfOk result (λ found. MatchOption found
         (list_all (λ d. nat_le d top) numbers.now ≡ false)
-        (λ v. (v.items ≡ numbers.now) × (list_all (λ d. nat_le d top) numbers.now ≡ true) × All (λ d. d ≤ top) v.items)) }
+        (λ v. (v.items ≡ numbers.now) × (list_all (λ d. nat_le d top) numbers.now ≡ true) ×
+        All (λ d. d ≤ top) v.items)) }
 {
     let mut all = Vec::new(alloc);
     for number in numbers {
@@ -123,7 +125,8 @@ pub fn are_near<D: Distance>(
     requires over { All (λ w. length w ≡ length model) nearest.now }
     requires vector { length vector.now ≡ length agents.now }
     requires nearest { length nearest.now ≡ length agents.now }
-    ensures { result ≡ are_near (D.dist distance.now) model (map (λ agent. agent.base) agents.now) vector.now nearest.now }
+    ensures { result ≡ are_near (D.dist distance.now) model (map
+        (λ agent. agent.base) agents.now) vector.now nearest.now }
 {
     for (k, agent) in agents.iter().enumerate() {
         if !is_near(distance, model, &agent.base, nearest[k], vector[k]) {

@@ -1,5 +1,6 @@
 // The lines of a shown model: the model, its vector, the nearest models and the measure.
-ghost use Rattle.std.specs.Prelude.{◌≡◌, ◌<◌, ◌≤◌, ◌⊎◌, true, length, map, All, IfOk, OnOk, OnErr, if◌then◌else◌, ◌==◌, nat_le};
+ghost use Rattle.std.specs.Prelude.{◌≡◌, ◌≤◌, ◌⊎◌, true, length, map, All, IfOk, OnOk, OnErr};
+ghost use Rattle.std.specs.Prelude.{if◌then◌else◌, ◌==◌, nat_le};
 ghost use Rattle.std.specs.List.{list_all};
 ghost use Rattle.report_lines.specs.ClaimsDue.{far_claims};
 ghost use Rattle.report_lines.specs.Following.{due_after_verdicts};
@@ -8,7 +9,8 @@ ghost use Rattle.report_lines.specs.Items.{ModelLine, VectorLine};
 ghost use Rattle.report_lines.specs.Places.{DueAt, IsModelLine, full_at, rank_at, top_at};
 ghost use Rattle.merge_encoding.specs.Named.{values_named};
 ghost use Rattle.ranks.specs.Limits.{distance_limit, entry_limit};
-ghost use Rattle.report_text.specs.Answering.{position_of, due_claim, StandsAtAnswer, FitsAt, IsFirst, IsAfterNo, IsVectorAt, AreProperAt, IsFit};
+ghost use Rattle.report_text.specs.Answering.{position_of, due_claim, StandsAtAnswer, FitsAt};
+ghost use Rattle.report_text.specs.Answering.{IsFirst, IsAfterNo, IsVectorAt, AreProperAt, IsFit};
 ghost use Rattle.report_text.specs.Judging.{JudgedAs};
 ghost use Rattle.report_text.specs.Taking.{Takes};
 
@@ -55,7 +57,8 @@ impl Answering {
     pub(crate) fn on_model(&mut self, line: &[u8]) -> Result<(), LineStop>
         requires place { IsFirst self.old ⊎ IsAfterNo self.old }
         requires claims { AreProperAt (position_of self.old) }
-        ensures judged { JudgedAs (IsModelLine (position_of self.old)) (position_of self.old) line.now (StandsAtAnswer self.new) result }
+        ensures judged { JudgedAs (IsModelLine (position_of self.old))
+            (position_of self.old) line.now (StandsAtAnswer self.new) result }
         ensures fit { OnOk result (IsFit self.new) }
         ensures kept { OnErr result (position_of self.new ≡ position_of self.old) }
     {
@@ -73,10 +76,12 @@ impl Answering {
     /// The full vector of a vector.
     fn full_of(&self, vector: &[u32]) -> Result<Vec<u32>, NoMemory>
         requires { IsVectorAt (position_of self.now) vector.now }
-        ensures full { IfOk result (λ full. full.items ≡ full_at (position_of self.now) vector.now) }
+        ensures full { IfOk result
+            (λ full. full.items ≡ full_at (position_of self.now) vector.now) }
         ensures some { IfOk result (λ full. 1 ≤ length full.items) }
         ensures few { IfOk result (λ full. length full.items ≤ entry_limit) }
-        ensures within { IfOk result (λ full. All (λ k. k ≤ top_at (position_of self.now)) full.items) }
+        ensures within { IfOk result
+            (λ full. All (λ k. k ≤ top_at (position_of self.now)) full.items) }
         ensures small { IfOk result (λ full. All (λ k. k ≤ distance_limit) full.items) }
     {
         let full = full_vector(self.alloc, vector, self.problem.agents.as_slice())?;
@@ -96,9 +101,11 @@ impl Answering {
     fn first_of(&self, vector: &[u32]) -> Result<First, NoMemory>
         requires { IsVectorAt (position_of self.now) vector.now }
         ensures vector { IfOk result (λ first. first.vector.items ≡ vector.now) }
-        ensures measure { IfOk result (λ first. first.measure.items ≡ rank_at (position_of self.now) vector.now) }
+        ensures measure { IfOk result
+            (λ first. first.measure.items ≡ rank_at (position_of self.now) vector.now) }
         ensures values { IfOk result (λ first. first.values.items ≡
-            values_named self.now.aggregator (full_at (position_of self.now) vector.now) (top_at (position_of self.now))) }
+            values_named self.now.aggregator (full_at (position_of self.now) vector.now)
+            (top_at (position_of self.now))) }
     {
         let full = self.full_of(vector)?;
         let top = top_of(self.distance, &self.problem);
@@ -111,7 +118,9 @@ impl Answering {
 
     /// That no base has a model nearer to the last model than the vector says.
     fn far_of(&self, vector: &[u32]) -> Result<Vec<Claimed>, NoMemory>
-        ensures { IfOk result (λ claims. map due_claim claims.items ≡ far_claims self.now.verdicts self.now.model vector.now) }
+        ensures { IfOk result
+            (λ claims. map
+            due_claim claims.items ≡ far_claims self.now.verdicts self.now.model vector.now) }
     {
         far_claims(self.alloc, self.verdicts as u64, self.model, vector)
     }
@@ -119,10 +128,12 @@ impl Answering {
     /// The first vector: it and its measure and level values are kept.
     fn take_first(&mut self, vector: Vec<u32>) -> Result<(), LineStop>
         requires vector { IsVectorAt (position_of self.old) vector.items }
-        requires passed { list_all (λ d. nat_le d (top_at (position_of self.old))) vector.items ≡ true }
+        requires passed { list_all
+            (λ d. nat_le d (top_at (position_of self.old))) vector.items ≡ true }
         requires model { length self.old.model ≡ length self.old.problem.atoms }
         requires first { IsFirst self.old }
-        ensures taken { Takes (position_of self.old) (VectorLine vector.items) (StandsAtAnswer self.new) result }
+        ensures taken { Takes (position_of self.old) (VectorLine vector.items)
+            (StandsAtAnswer self.new) result }
         ensures fit { OnOk result (IsFit self.new) }
         ensures kept { OnErr result (position_of self.new ≡ position_of self.old) }
     {
@@ -140,11 +151,13 @@ impl Answering {
     /// The vector of a model after a no: its rank is the measure.
     fn take_next(&mut self, vector: Vec<u32>) -> Result<(), LineStop>
         requires vector { IsVectorAt (position_of self.old) vector.items }
-        requires passed { list_all (λ d. nat_le d (top_at (position_of self.old))) vector.items ≡ true }
+        requires passed { list_all
+            (λ d. nat_le d (top_at (position_of self.old))) vector.items ≡ true }
         requires model { length self.old.model ≡ length self.old.problem.atoms }
         requires after { IsAfterNo self.old }
         requires claims { AreProperAt (position_of self.old) }
-        ensures taken { Takes (position_of self.old) (VectorLine vector.items) (StandsAtAnswer self.new) result }
+        ensures taken { Takes (position_of self.old) (VectorLine vector.items)
+            (StandsAtAnswer self.new) result }
         ensures fit { OnOk result (IsFit self.new) }
         ensures kept { OnErr result (position_of self.new ≡ position_of self.old) }
     {
@@ -163,7 +176,8 @@ impl Answering {
     pub(crate) fn on_vector(&mut self, line: &[u8]) -> Result<(), LineStop>
         requires place { FitsAt Due.Vector self.old }
         requires claims { AreProperAt (position_of self.old) }
-        ensures judged { JudgedAs (DueAt Due.Vector (position_of self.old)) (position_of self.old) line.now (StandsAtAnswer self.new) result }
+        ensures judged { JudgedAs (DueAt Due.Vector (position_of self.old))
+            (position_of self.old) line.now (StandsAtAnswer self.new) result }
         ensures fit { OnOk result (IsFit self.new) }
         ensures kept { OnErr result (position_of self.new ≡ position_of self.old) }
     {
@@ -184,7 +198,8 @@ impl Answering {
 
     /// What is due after the nearest models.
     fn due_after_nearest(&self) -> Due
-        ensures { result ≡ (if self.now.verdicts == 0 then Due.Measure else due_after_verdicts (position_of self.now) self.now.verdicts) }
+        ensures { result ≡ (if self.now.verdicts == 0 then Due.Measure else due_after_verdicts
+            (position_of self.now) self.now.verdicts) }
     {
         if self.verdicts == 0 {
             return Due::Measure;
@@ -196,7 +211,8 @@ impl Answering {
     pub(crate) fn on_nearest(&mut self, line: &[u8]) -> Result<(), LineStop>
         requires place { FitsAt Due.Nearest self.old }
         requires claims { AreProperAt (position_of self.old) }
-        ensures judged { JudgedAs (DueAt Due.Nearest (position_of self.old)) (position_of self.old) line.now (StandsAtAnswer self.new) result }
+        ensures judged { JudgedAs (DueAt Due.Nearest (position_of self.old))
+            (position_of self.old) line.now (StandsAtAnswer self.new) result }
         ensures fit { OnOk result (IsFit self.new) }
         ensures kept { OnErr result (position_of self.new ≡ position_of self.old) }
     {
@@ -222,7 +238,8 @@ impl Answering {
     pub(crate) fn on_measure(&mut self, line: &[u8]) -> Result<(), LineStop>
         requires place { FitsAt Due.Measure self.old }
         requires claims { AreProperAt (position_of self.old) }
-        ensures judged { JudgedAs (DueAt Due.Measure (position_of self.old)) (position_of self.old) line.now (StandsAtAnswer self.new) result }
+        ensures judged { JudgedAs (DueAt Due.Measure (position_of self.old))
+            (position_of self.old) line.now (StandsAtAnswer self.new) result }
         ensures fit { OnOk result (IsFit self.new) }
         ensures kept { OnErr result (position_of self.new ≡ position_of self.old) }
     {

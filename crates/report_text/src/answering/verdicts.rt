@@ -4,7 +4,8 @@ ghost use Rattle.merge_encoding.specs.Claims.{NoBreaker};
 ghost use Rattle.report_lines.specs.ClaimsDue.{of_first};
 ghost use Rattle.report_lines.specs.Items.{VerdictLine};
 ghost use Rattle.report_lines.specs.Places.{DueAt};
-ghost use Rattle.report_text.specs.Answering.{position_of, due_claim, StandsAtAnswer, FitsAt, AreProperAt, IsFit};
+ghost use Rattle.report_text.specs.Answering.{position_of, due_claim, StandsAtAnswer, FitsAt};
+ghost use Rattle.report_text.specs.Answering.{AreProperAt, IsFit};
 ghost use Rattle.report_text.specs.Judging.{JudgedAs};
 ghost use Rattle.report_text.specs.Taking.{Takes};
 
@@ -19,7 +20,9 @@ use report_lines::{Due, RefusedKind, verdict_line};
 impl Answering {
     /// That nothing that breaks the query is as good as the first model.
     fn yes_claim(&self) -> Result<Claimed, NoMemory>
-        ensures { IfOk result (λ claim. due_claim claim ≡ of_first (NoBreaker self.now.verdicts self.now.values.items)) }
+        ensures { IfOk result
+            (λ claim. due_claim
+            claim ≡ of_first (NoBreaker self.now.verdicts self.now.values.items)) }
     {
         let values = self.values.as_slice().to_vec(self.alloc)?;
         Ok(Claimed {
@@ -32,7 +35,8 @@ impl Answering {
     fn take_yes(&mut self) -> Result<(), LineStop>
         requires place { FitsAt Due.Verdict self.old }
         requires claims { AreProperAt (position_of self.old) }
-        ensures taken { Takes (position_of self.old) (VerdictLine self.old.verdicts true) (StandsAtAnswer self.new) result }
+        ensures taken { Takes (position_of self.old) (VerdictLine self.old.verdicts true)
+            (StandsAtAnswer self.new) result }
         ensures fit { OnOk result (IsFit self.new) }
         ensures kept { OnErr result (position_of self.new ≡ position_of self.old) }
     {
@@ -47,7 +51,8 @@ impl Answering {
     pub(crate) fn on_verdict(&mut self, line: &[u8]) -> Result<(), LineStop>
         requires place { FitsAt Due.Verdict self.old }
         requires claims { AreProperAt (position_of self.old) }
-        ensures judged { JudgedAs (DueAt Due.Verdict (position_of self.old)) (position_of self.old) line.now (StandsAtAnswer self.new) result }
+        ensures judged { JudgedAs (DueAt Due.Verdict (position_of self.old))
+            (position_of self.old) line.now (StandsAtAnswer self.new) result }
         ensures fit { OnOk result (IsFit self.new) }
         ensures kept { OnErr result (position_of self.new ≡ position_of self.old) }
     {

@@ -41,8 +41,8 @@ impl ProblemLines {
         }
     }
 
-    /// Reads one more line, and tells whether it is canonical after those before it; where it is not,
-    /// it may have been left out.
+    /// Reads one more line, and tells whether it is canonical after those before it; where it is
+    /// not, it may have been left out.
     pub fn line(&mut self, line: &[u8]) -> Result<bool, NoMemory>
         ensures canonical { IfOk result
             (λ canonical. IsTrue canonical ↔ IsCanonicalNext self.old line.now) }

@@ -4,7 +4,8 @@ ghost use Rattle.formula_text.specs.ValuationWords.{valuation_word};
 ghost use Rattle.report_words.specs.Words.{line_of, later_text};
 ghost use Rattle.report_words.specs.Writing.{Writes};
 ghost use Rattle.report_lines.specs.Items.{subject_words};
-ghost use Rattle.report_lines.specs.Parts.{items_text, head_items, shown_items, verdict_items, named_item};
+ghost use Rattle.report_lines.specs.Parts.{items_text, head_items, shown_items, verdict_items};
+ghost use Rattle.report_lines.specs.Parts.{named_item};
 ghost use Rattle.report_lines.specs.Parts.{base_items, answer_items};
 ghost use Rattle.report_text.specs.WritingItems.{front_text, verdict_entry};
 
@@ -17,8 +18,8 @@ use profile_text::write_problem;
 use report_lines::Subject;
 use report_words::{write_bytes, write_line, write_numbers, write_word, write_words};
 
-/// Appends the lines of a report that stand before its log; on `NoMemory` what was appended is a part of them from
-/// their start.
+/// Appends the lines of a report that stand before its log; on `NoMemory` what was appended is a
+/// part of them from their start.
 pub fn write_answer(
     distance: DistanceName,
     aggregator: AggregatorName,
