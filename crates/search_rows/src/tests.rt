@@ -23,8 +23,7 @@ fn problem_of(alloc: Global, text: &str) -> Result<Problem, NoMemory> {
 // A best answer, where each formula has a model.
 fn best_of<A: Levelled + Drop>(search: &mut Search<Hamming, A>) -> Option<Best>
     ensures subject { search.new.subject ≡ search.old.subject }
-    ensures best { IfSome result
-        (IsBestFor (⟦<Subject<Hamming, A> as Questions>⟧.setting search.old.subject)) }
+    ensures best { IfSome result (IsBestFor (⟦<Subject<Hamming, A> as Questions>⟧.setting search.old.subject)) }
 {
     let Ok(found) = search.consistency() else {
         return None;
@@ -40,8 +39,7 @@ fn is_first_entailed<A: Levelled + Drop>(
     search: &mut Search<Hamming, A>,
     best: &Best,
 ) -> Option<bool>
-    requires { IsBestFor
-        (⟦<Subject<Hamming, A> as Questions>⟧.setting search.old.subject) best.now }
+    requires { IsBestFor (⟦<Subject<Hamming, A> as Questions>⟧.setting search.old.subject) best.now }
 {
     if search.problem().asks.is_empty() {
         return None;
