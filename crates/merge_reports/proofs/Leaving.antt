@@ -22,12 +22,12 @@ use Rattle.merge_encoding.specs.Claims.{Assertion, NoModelOfConstraint, NoModelO
 use Rattle.distance_search.specs.Setting.{Setting, IsOver}
 use Rattle.report_lines.specs.declared.report.Proof.{Proof}
 use Rattle.report_lines.specs.declared.report.Proof.TheVariants as proof
-use Rattle.report_lines.specs.ClaimsDue.{DueClaim}
+use Rattle.report_lines.specs.ClaimsDue.{DueClaim, claims_due}
 use Rattle.report_lines.specs.declared.report.Report.{Report}
 use Rattle.report_lines.specs.Accepted.{Operator, log_of}
 use Rattle.report_lines.specs.Parts.{operator_of}
 use Rattle.report_lines.specs.Reports.{step_of, proof_by, IsProofOf, asked_in, parts_in, IsReport}
-use Rattle.merge_reports.specs.Found.{IsShownBy, AreShownBy, IsFound, IsSmall}
+use Rattle.merge_reports.specs.Found.{IsShownBy, AreShownBy, IsFound, IsSmall, values_by}
 use Rattle.merge_reports.specs.Outcomes.{setting_by, IsEnd, IsOutcome}
 use Rattle.merge_reports.specs.Trimmed.{proof_with, proofs_with, is_given_up, IsTrimmedTo, IsTrimmedFor, IsTrimmedBy, IsTrimmedReport}
 
@@ -173,7 +173,8 @@ module _ (op : Operator) (budget : ℕ) (problem : Problem) (old new : Log) (pro
       let same = left_named old new (map step_of proofs) t.numbers t.log steps in
       record {
         right = h.right;
-        shown = subst (λ ps. AreShownBy (setting_by op problem) new _ ps) (sym t.proofs_placed) (shown_left (setting_by op problem) old new _ proofs t.numbers same h.shown);
+        shown = subst (λ ps. AreShownBy (setting_by op problem) new (claims_due (values_by (setting_by op problem)) answer) ps) (sym t.proofs_placed)
+            (shown_left (setting_by op problem) old new (claims_due (values_by (setting_by op problem)) answer) proofs t.numbers same h.shown);
       }
 
   over_left : IsTrimmedTo old proofs new placed → IsOver (setting_by op problem) old → IsOver (setting_by op problem) new
@@ -235,8 +236,12 @@ used_for (Merged best measure verdicts) old new proofs placed t sound steps = us
 used_for (Inconsistent constraint agents) old new proofs placed t sound steps = used_left old new proofs placed t sound steps
 used_for GaveUp old new proofs placed t sound steps = tt
 
+log_by : List (List Lit) → ℕ → List Step → Log
+log_by main vars steps = record { main = main; vars = vars; steps = steps }
+
 log_same : (g : Log) (main : List (List Lit)) (vars : ℕ) → g.main ≡ main → g.vars ≡ vars → g ≡ record { main = main; vars = vars; steps = g.steps }
-log_same g main vars p q = simp (p, q)
+unfolding log_by
+log_same g main vars p q = ap (λ (m : List (List Lit)). log_by m g.vars g.steps) p ∙ ap (λ (v : ℕ). log_by main v g.steps) q
 
 used_same : (a b : Log) (ns : List ℕ) → a ≡ b → AreUsed a ns → AreUsed b ns
 used_same a b ns e h = subst (λ g. AreUsed g ns) e h

@@ -41,8 +41,8 @@ pub fn report_on(
     trimmed_report(alloc, distance, aggregator, conflicts, outcome)
 }
 
-/// The report of what a search came to, as `report_of`; where there is an answer, its log is trimmed to
-/// the steps that show it. `NoMemory` for want of memory.
+/// The report of what a search came to, as `report_of`; where there is an answer, its log is trimmed
+/// to the steps that show it. `NoMemory` for want of memory.
 pub fn trimmed_report(
     alloc: Global,
     distance: DistanceName,

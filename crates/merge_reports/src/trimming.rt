@@ -72,8 +72,8 @@ fn gave_up(answer: &Answer) -> bool
     }
 }
 
-/// Leaves of the log what the proofs need, where there is an answer. The log of a search that gave up
-/// stays whole, since it shows what was spent.
+/// Leaves of the log what the proofs need, where there is an answer. The log of a search that gave
+/// up stays whole, since it shows what was spent.
 pub fn trimmed(alloc: Global, outcome: Outcome) -> Result<Outcome, NoMemory>
     requires sound { IsSound outcome.derivations.main outcome.derivations.steps }
     requires proofs { AllByRecursion (λ n. (length outcome.derivations.main ≤ n) ×

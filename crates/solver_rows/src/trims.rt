@@ -101,7 +101,8 @@ fn trimmed(alloc: Global, log: Derivations, twice: bool) -> Result<Option<Trimme
     Ok(Some(trim(alloc, log, &[16])?))
 }
 
-/// Whether the log's last step has this number, begins at this clause and has so many literals and links.
+/// Whether the log's last step has this number, begins at this clause and has so many literals and
+/// links.
 fn ends_with(
     alloc: Global,
     log: &Derivations,

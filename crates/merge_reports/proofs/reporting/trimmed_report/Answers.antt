@@ -27,4 +27,7 @@ returns-clause-trimmed c =
     let l = c.in_ok-left.left in
     let e = c.in_ok-left.ensures in
     let r = c.report_of.ensures in
-    report_trimmed c.report_of.result o.found.answer o.derivations l.derivations o.found.proofs.items l.found.proofs.items r.whole (r.said ∙ e.answer) r.log r.proofs e.log (trimmed-requires-clause-sound c) (trimmed-requires-clause-proofs c)
+    let op = operator_named c.args.distance c.args.aggregator o.problem.atoms in
+    report_trimmed c.report_of.result o.found.answer o.derivations l.derivations o.found.proofs.items l.found.proofs.items r.whole (r.said ∙ e.answer) r.log r.proofs e.log
+    (outcome_sound op c.args.conflicts o.problem o.derivations o.found.answer o.found.proofs.items c.requires.outcome)
+    (outcome_steps op c.args.conflicts o.problem o.derivations o.found.answer o.found.proofs.items c.requires.outcome)
