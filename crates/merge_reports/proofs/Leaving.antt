@@ -1,5 +1,5 @@
 -- An outcome whose log was trimmed is an outcome still.
-use Rattle.std.proofs.Common.{◌≡◌, ℕ, ◌+◌, ◌<◌, ◌≤◌, Bool, true, false, List, [], ◌∷◌, ◌++◌, inl, inr, length, map, refl, sym, ap, ◌∙◌, subst, arith, Some, length-append}
+use Rattle.std.proofs.Common.{◌≡◌, ℕ, ◌<◌, ◌≤◌, Bool, true, false, List, [], ◌∷◌, ◌++◌, inl, inr, length, map, refl, sym, ap, ◌∙◌, subst, arith, Some, length-append}
 use Rattle.std.specs.Prelude.{slice_get}
 use Rattle.std.specs.List.{AllByRecursion, AllZip}
 use Rattle.std.proofs.lemmas.Bool.{cases_Bool}
@@ -96,8 +96,8 @@ small_left old new named numbers t h =
     let count = h.count in
     let few = h.vars in
     let each : AreInRange old.vars (old.main ++ kept_of t.marks (clauses_of old.steps)) =
-        each_append (InRange old.vars) old.main (kept_of t.marks (clauses_of old.steps)) (each_front (InRange old.vars) old.main (clauses_of old.steps) h.in_range)
-        (each_kept (InRange old.vars) t.marks (clauses_of old.steps) (each_back (InRange old.vars) old.main (clauses_of old.steps) h.in_range)) in
+    each_append (InRange old.vars) old.main (kept_of t.marks (clauses_of old.steps)) (each_front (InRange old.vars) old.main (clauses_of old.steps) h.in_range)
+    (each_kept (InRange old.vars) t.marks (clauses_of old.steps) (each_back (InRange old.vars) old.main (clauses_of old.steps) h.in_range)) in
     record {
       vars = omega arith;
       count = omega arith;
@@ -127,14 +127,15 @@ proof_placed claim p n e = ap (λ (q : Proof). proof_with q n) e ∙ with_by cla
 one_shown : (s : Setting) (old new : Log) (claim : DueClaim) (p : Proof) (n : ℕ) → IsSameStep old new (step_of p) n → IsShownBy s old claim p → IsShownBy s new claim (proof_with p n)
 one_shown s old new claim p n same h =
     let r = h.1 in
-    let e = sym (step_with p n) in
-    (proof_placed claim p n h.0,
+    let e = sym (step_with p n) in (
+      proof_placed claim p n h.0,
       record {
         above = subst (λ (m : ℕ). length new.main ≤ m) e same.0;
         clause = r.clause;
         is_there = subst (λ (m : ℕ). slice_get (known_of new) m ≡ Some r.clause) e (same.1 ∙ r.is_there);
         refuted = r.refuted;
-      })
+      },
+    )
 
 shown_left : (s : Setting) (old new : Log) (claims : List DueClaim) (proofs : List Proof) (numbers : List ℕ) → AllZip (IsSameStep old new) (map step_of proofs) numbers → AreShownBy s old claims proofs → AreShownBy s new claims (proofs_with proofs numbers)
 shown_left s old new [] [] numbers z h = tt
