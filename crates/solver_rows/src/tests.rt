@@ -1,6 +1,6 @@
 // What the solver answers to worked questions by scanning and by watched literals, and that each
 // step of its logs follows.
-use crate::{questions, trims};
+use crate::questions;
 use std::test::Fail;
 use watch_lists::{Scan, Watches};
 
@@ -32,17 +32,4 @@ fn what_is_never_true_is_refuted_by_the_empty_clause(rt: HostRuntime) -> Result<
 fn an_empty_clause_is_claimed_as_it_stands(rt: HostRuntime) -> Result<(), Fail> {
     questions::claims_an_empty_clause::<Scan>(&rt, rt.alloc())?;
     questions::claims_an_empty_clause::<Watches>(&rt, rt.alloc())
-}
-
-#[test]
-fn what_nothing_needs_is_left_out(rt: HostRuntime) -> Result<(), Fail> {
-    assert!(rt; trims::leaves_one_step(rt.alloc(), false)?);
-    assert!(rt; trims::leaves_one_step(rt.alloc(), true)?);
-    Ok(())
-}
-
-#[test]
-fn what_is_used_is_left_with_new_numbers(rt: HostRuntime) -> Result<(), Fail> {
-    assert!(rt; trims::renumbers_what_is_used(rt.alloc())?);
-    Ok(())
 }
