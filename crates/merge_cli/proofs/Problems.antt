@@ -16,6 +16,7 @@ use Rattle.report_lines.specs.declared.report.Report.{Report}
 use Rattle.report_lines.specs.Parts.{Asked, HasForm, report_text}
 use Rattle.report_lines.specs.Reports.{asked_in, parts_in}
 use Rattle.merge_reports.specs.BorneOut.{IsBorneOutBy, IsTruthfulBy}
+use Rattle.merge_reports.specs.Trimmed.{IsTrimmedBy, IsTrimmedReport}
 use Rattle.merge_cli.specs.declared.reply.Reply.{Reply}
 use Rattle.merge_cli.specs.Merge.{MergeAnswers, status_of, merged, inconsistent, gave_up}
 use Rattle.merge_cli.specs.Refusals.{SaysStop}
@@ -23,26 +24,28 @@ use Rattle.merge_cli.specs.Rows.{ProblemTextAnswers, refused, of_problem}
 
 -- the report on a problem answers it
 answered_by : (report : Report) (answer : Answer) (status : ℕ) (text : List ℕ) → HasForm (asked_in report) (parts_in report)
-    → IsBorneOutBy (asked_in report) (parts_in report) answer → IsTruthfulBy report answer
+    → IsBorneOutBy (asked_in report) (parts_in report) answer → IsTruthfulBy report answer → IsTrimmedBy (asked_in report) (parts_in report) answer
     → status ≡ status_of answer → text ≡ report_text (asked_in report) (parts_in report)
     → MergeAnswers (asked_in report) report.problem status text
-answered_by report (Merged best measure verdicts) s t form borne_out truth status text =
+answered_by report (Merged best measure verdicts) s t form borne_out truth trimmed status text =
     merged status (record {
       parts = parts_in report;
       report = record { form = form; spelled = text };
       subject = refl;
       accepted = borne_out;
+      trimmed = trimmed;
       right = truth;
     })
-answered_by report (Inconsistent constraint agents) s t form borne_out truth status text =
+answered_by report (Inconsistent constraint agents) s t form borne_out truth trimmed status text =
     inconsistent status (record {
       parts = parts_in report;
       report = record { form = form; spelled = text };
       subject = refl;
       accepted = borne_out;
+      trimmed = trimmed;
       named = truth;
     })
-answered_by report GaveUp s t form borne_out truth status text =
+answered_by report GaveUp s t form borne_out truth trimmed status text =
     gave_up status (record {
       parts = parts_in report;
       report = record { form = form; spelled = text };
@@ -60,18 +63,18 @@ same_asked d e a f b c distance aggregator conflicts =
 
 pub merge_answered : {E : Type 0} (distance : DistanceName) (aggregator : AggregatorName) (conflicts : ℕ) (problem : Problem) (report : Report) (result : Result Reply E)
     → report.distance ≡ distance → report.aggregator ≡ aggregator → report.conflicts ≡ conflicts → report.problem ≡ problem
-    → HasForm (asked_in report) (parts_in report) → IsBorneOutBy (asked_in report) (parts_in report) report.answer → IsTruthfulBy report report.answer
+    → HasForm (asked_in report) (parts_in report) → IsBorneOutBy (asked_in report) (parts_in report) report.answer → IsTruthfulBy report report.answer → IsTrimmedReport report
     → IfOk result (λ reply. reply.status ≡ status_of report.answer) → IfOk result (λ reply. reply.text.items ≡ report_text (asked_in report) (parts_in report))
     → IfOk result (λ reply. MergeAnswers (record { distance = distance; aggregator = aggregator; conflicts = conflicts }) problem reply.status reply.text.items)
 unfolding asked_by
-merge_answered d a b p report (Ok reply) distance aggregator conflicts problem form borne_out truth status text =
+merge_answered d a b p report (Ok reply) distance aggregator conflicts problem form borne_out truth trimmed status text =
     let s = reply.status in
     let t = reply.text.items in
     let P : Asked → Type 0 = λ asked. MergeAnswers asked p s t in
     let Q : Problem → Type 0 = λ q. MergeAnswers (asked_in report) q s t in
     subst P (same_asked report.distance d report.aggregator a report.conflicts b distance aggregator conflicts)
-    (subst Q problem (answered_by report report.answer s t form borne_out truth status text))
-merge_answered d a b p report (Err stop) distance aggregator conflicts problem form borne_out truth status text = tt
+    (subst Q problem (answered_by report report.answer s t form borne_out truth trimmed status text))
+merge_answered d a b p report (Err stop) distance aggregator conflicts problem form borne_out truth trimmed status text = tt
 
 -- a text that spells a problem is answered as the problem is, and another by its first fault
 module _ {E : Type 0} (answers : Problem → ℕ → List ℕ → Type 0) (read : List ℕ) where

@@ -4,7 +4,8 @@ use Rattle.merge_model.specs.declared.answer.Answer.{Answer}
 use Rattle.merge_model.specs.declared.answer.Answer.TheVariants.{Merged, Inconsistent, GaveUp}
 use Rattle.merge_model.specs.declared.problem.Problem.{Problem}
 use Rattle.merge_model.specs.Answers.{dist_named, rank_named, IsRight, IsNamed}
-use Rattle.report_lines.specs.Accepted.{Parts, AreAccepted, main_of}
+use Rattle.derivation_log.specs.Trimming.{AreUsed}
+use Rattle.report_lines.specs.Accepted.{Parts, AreAccepted, log_of, main_of}
 use Rattle.report_lines.specs.Operators.{operator_named}
 use Rattle.report_lines.specs.Parts.{Asked, operator_of, HasParts, AreSpent}
 
@@ -18,12 +19,17 @@ status_of GaveUp = 3
 abbrev pub main_vars : Asked → Problem → ℕ
 main_vars asked problem = (main_of (operator_named asked.distance asked.aggregator problem.atoms) problem).vars
 
+-- each step of the parts is named by a line that shows a claim, or a later step uses it
+abbrev pub AreTrimmed : Asked → Parts → Type 0
+AreTrimmed asked parts = AreUsed (log_of (operator_of asked parts) parts) parts.shown
+
 -- the text is an accepted report of a right merge of the problem
 pub record ReportsMerge (asked : Asked) (problem : Problem) (text : List ℕ) : Type 0 where
   pub parts : Parts
   pub report : HasParts text asked parts
   pub subject : parts.problem ≡ problem
   pub accepted : AreAccepted (operator_of asked parts) parts
+  pub trimmed : AreTrimmed asked parts
   pub right : IsRight (dist_named asked.distance problem.atoms) (rank_named asked.aggregator) problem parts.answer
 
 -- the text is an accepted report of which formulas of the problem have a model and which have none
@@ -32,6 +38,7 @@ pub record ReportsLack (asked : Asked) (problem : Problem) (text : List ℕ) : T
   pub report : HasParts text asked parts
   pub subject : parts.problem ≡ problem
   pub accepted : AreAccepted (operator_of asked parts) parts
+  pub trimmed : AreTrimmed asked parts
   pub named : IsNamed problem parts.answer
 
 -- the text is the report of a search on the problem that learned as many steps as it was given, which are fewer than the

@@ -22,7 +22,7 @@ use derivation_log::Derivations;
 use distance_search::Consistency;
 use edge::NoMemory;
 use merge_model::{AggregatorName, Answer, DistanceName, Problem};
-use merge_reports::{Found, Outcome, is_small, named, report_of};
+use merge_reports::{Found, Outcome, is_small, named, trimmed_report};
 use std::alloc::Global;
 
 /// What `list` answers to a problem.
@@ -172,6 +172,6 @@ fn search_reply(
     ensures answers { IfOk result (λ reply. MergeAnswers (usual_asked distance aggregator) outcome.problem
         reply.status reply.text.items) }
 {
-    let report = report_of(distance, aggregator, USUAL_CONFLICTS, outcome);
+    let report = trimmed_report(alloc, distance, aggregator, USUAL_CONFLICTS, outcome)?;
     report_reply(alloc, &report)
 }

@@ -6,3 +6,4 @@ pub mod Shapes
 pub mod Spent
 pub mod Ends
 pub mod Whole
+pub mod Leaving

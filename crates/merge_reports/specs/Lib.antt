@@ -2,3 +2,4 @@ pub mod Proofs
 pub mod Found
 pub mod Outcomes
 pub mod BorneOut
+pub mod Trimmed

@@ -6,7 +6,8 @@ mod naming;
 mod outcome;
 mod proving;
 mod reporting;
+mod trimming;
 
 pub use naming::named;
 pub use outcome::{Found, Outcome, is_small};
-pub use reporting::{report_of, report_on};
+pub use reporting::{report_of, report_on, trimmed_report};

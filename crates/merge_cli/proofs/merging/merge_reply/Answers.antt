@@ -5,4 +5,4 @@ pub returns : goal.returns
 returns c =
     let report = c.in_ok-report.report in
     let is = c.in_ok-report.ensures in
-    merge_answered _ _ _ c.args.problem report c.report_reply.result is.distance is.aggregator is.conflicts is.problem is.form is.answer is.truth c.report_reply.ensures.status c.report_reply.ensures.text
+    merge_answered _ _ _ c.args.problem report c.report_reply.result is.distance is.aggregator is.conflicts is.problem is.form is.answer is.truth is.trimmed c.report_reply.ensures.status c.report_reply.ensures.text
