@@ -92,19 +92,3 @@ one_ruled s a b best q verdicts pushed old new v less longer h r e =
       count = ap length e ∙ length-append verdicts (v ∷ []) ∙ ap (λ (n : ℕ). n + 1) h.count;
       shown = subst (λ (cs : List DueClaim). AreShownBy s b cs new) claims (subst (λ ps. AreShownBy s b (claims_so_far best verdicts ++ claims_on best.values q v) ps) (sym r.appended) all);
     }
-
-pub whole_ruled : (s : Setting) (a b : Log) (best : Best) (q : ℕ) (verdicts given : List Verdict) (proofs : List Proof) → IsBest s a best → length s.asks ≤ q → AreRuled s b best q verdicts proofs → given ≡ verdicts → IsFound s b (Merged best.shown best.measure given) proofs
-whole_ruled s a b best q verdicts given proofs best_is all h e =
-    let of = best_is.of in
-    let shown = of.shown in
-    let values : best.values ≡ values_by s best.shown.vector = of.values ∙ ap (λ ks. values_by s ks) (sym shown.vector) in
-    record {
-      right = record {
-        closest = of.closest;
-        shown = shown;
-        measured = of.measure;
-        judged = subst (λ vs. AllZip (IsVerdict s.dist s.rank s.profile) s.asks vs) (sym e) (subst (λ fs. AllZip (IsVerdict s.dist s.rank s.profile) fs verdicts) (take_all q s.asks all) h.judged);
-      };
-      shown = subst (λ vs. AreShownBy s b (far_claims 0 best.shown.model best.shown.vector ++ (least_claims (values_by s best.shown.vector) ++ verdict_claims (values_by s best.shown.vector) 0 vs)) proofs) (sym e)
-          (subst (λ (ks : List ℕ). AreShownBy s b (far_claims 0 best.shown.model best.shown.vector ++ (least_claims ks ++ verdict_claims ks 0 verdicts)) proofs) values h.shown);
-    }

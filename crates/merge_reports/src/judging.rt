@@ -25,7 +25,8 @@ fn judge<D: Counted + Drop, A: Levelled + Drop>(
     ensures subject { search.new.subject ≡ search.old.subject }
     ensures longer { IsLonger search.old.engine.log search.new.engine.log }
     ensures answer { MatchResult result
-        (λ verdict. IsRuled (⟦<Subject<D, A> as Questions>⟧.setting search.old.subject) search.new.engine.log
+        (λ verdict. IsRuled
+        (⟦<Subject<D, A> as Questions>⟧.setting search.old.subject) search.new.engine.log
         best.now.values query proofs.old.items proofs.new.items verdict)
         (λ stop. IsEnded search.new.engine.log search.old.subject.budget stop) }
 {
@@ -49,7 +50,8 @@ pub fn merged<D: Counted + Drop, A: Levelled + Drop>(
     requires { IsConsistent (⟦<Subject<D, A> as Questions>⟧.setting search.old.subject) }
     ensures subject { search.new.subject ≡ search.old.subject }
     ensures answer { MatchResult result
-        (λ found. IsFound (⟦<Subject<D, A> as Questions>⟧.setting search.old.subject) search.new.engine.log
+        (λ found. IsFound
+        (⟦<Subject<D, A> as Questions>⟧.setting search.old.subject) search.new.engine.log
         found.answer found.proofs.items)
         (λ stop. IsEnded search.new.engine.log search.old.subject.budget stop) }
 {

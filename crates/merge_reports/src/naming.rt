@@ -1,6 +1,7 @@
 // The answer where some formula has no model.
 ghost use Rattle.std.specs.Prelude.{◌≡◌, ◌++◌, IfOk, OnOk};
-ghost use Rattle.merge_reports.specs.Proofs.{lack_proof, entry_of, entry_proofs, naming_answer, naming_proofs};
+ghost use Rattle.merge_reports.specs.Proofs.{lack_proof, entry_of, entry_proofs, naming_answer};
+ghost use Rattle.merge_reports.specs.Proofs.{naming_proofs};
 
 use crate::outcome::Found;
 use distance_search::{Consistency, Named};
@@ -27,7 +28,8 @@ fn entry(
     named: &Named,
 ) -> Result<Option<Valuation>, NoMemory>
     ensures entry { IfOk result (λ found. found ≡ entry_of named.now) }
-    ensures proofs { OnOk result (proofs.new.items ≡ proofs.old.items ++ entry_proofs subject named.now) }
+    ensures proofs { OnOk result (proofs.new.items ≡
+        proofs.old.items ++ entry_proofs subject named.now) }
 {
     match named {
         Named::Model(valuation) => Ok(Some(*valuation)),

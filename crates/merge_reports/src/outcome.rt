@@ -45,7 +45,8 @@ fn find<D: Counted + Drop, A: Levelled + Drop>(
 ) -> Result<Found, SearchStop>
     ensures subject { search.new.subject ≡ search.old.subject }
     ensures answer { MatchResult result
-        (λ found. IsFound (⟦<Subject<D, A> as Questions>⟧.setting search.old.subject) search.new.engine.log
+        (λ found. IsFound
+        (⟦<Subject<D, A> as Questions>⟧.setting search.old.subject) search.new.engine.log
         found.answer found.proofs.items)
         (λ stop. IsEnded search.new.engine.log search.old.subject.budget stop) }
 {
@@ -76,7 +77,8 @@ fn search_by<D: Counted + Drop, A: Levelled + Drop>(
 ) -> Result<Outcome, NoMemory>
     requires { 1 ≤ conflicts }
     ensures problem { IfOk result (λ outcome. outcome.problem ≡ problem) }
-    ensures outcome { IfOk result (λ outcome. IsOutcome (operator (D.dist distance) (D.most distance) (D.due distance)
+    ensures outcome { IfOk result
+        (λ outcome. IsOutcome (operator (D.dist distance) (D.most distance) (D.due distance)
         (A.rank aggregator) (A.levels_of aggregator) (A.levels_due aggregator)) conflicts
         outcome.problem outcome.derivations outcome.found.answer outcome.found.proofs.items) }
 {
@@ -108,7 +110,8 @@ pub fn search_named(
 ) -> Result<Outcome, NoMemory>
     requires { 1 ≤ conflicts }
     ensures problem { IfOk result (λ outcome. outcome.problem ≡ problem) }
-    ensures outcome { IfOk result (λ outcome. IsOutcome (operator_named distance aggregator outcome.problem.atoms) conflicts
+    ensures outcome { IfOk result
+        (λ outcome. IsOutcome (operator_named distance aggregator outcome.problem.atoms) conflicts
         outcome.problem outcome.derivations outcome.found.answer outcome.found.proofs.items) }
 {
     match (distance, aggregator) {

@@ -5,8 +5,9 @@ ghost use Rattle.merge_reports.specs.Proofs.{far_proofs, least_proofs};
 use edge::NoMemory;
 use report_lines::Proof;
 
-/// Appends the proofs that no model of a base is nearer to a shown model, from the step of each agent
-/// that has one. The first model that is shown has number 0, that of a query its number from 1.
+/// Appends the proofs that no model of a base is nearer to a shown model, from the step of each
+/// agent that has one. The first model that is shown has number 0, that of a query its number from
+/// 1.
 pub fn push_far(
     proofs: &mut Vec<Proof>,
     shown: usize,

@@ -15,9 +15,9 @@ use merge_model::{AggregatorName, DistanceName, Problem, Sequence};
 use report_lines::Report;
 use std::alloc::Global;
 
-/// Merges a problem by search under the named distance and aggregator: the report, with the log that
-/// shows it. Each question may learn `conflicts` steps; where one learns them all, the report says that
-/// the search gave up. `NoMemory` for want of memory.
+/// Merges a problem by search under the named distance and aggregator: the report, with the log
+/// that shows it. Each question may learn `conflicts` steps; where one learns them all, the report
+/// says that the search gave up. `NoMemory` for want of memory.
 pub fn report_on(
     alloc: Global,
     distance: DistanceName,
@@ -41,8 +41,8 @@ pub fn report_on(
     trimmed_report(alloc, distance, aggregator, conflicts, outcome)
 }
 
-/// The report of what a search came to, as `report_of`; where there is an answer, its log is trimmed
-/// to the steps that show it. `NoMemory` for want of memory.
+/// The report of what a search came to, as `report_of`; where there is an answer, its log is
+/// trimmed to the steps that show it. `NoMemory` for want of memory.
 pub fn trimmed_report(
     alloc: Global,
     distance: DistanceName,
@@ -52,7 +52,8 @@ pub fn trimmed_report(
 ) -> Result<Report, NoMemory>
     requires some { 1 ≤ conflicts }
     requires few { conflicts ≤ conflict_limit }
-    requires outcome { IsOutcome (operator_named distance aggregator outcome.problem.atoms) conflicts
+    requires outcome { IsOutcome
+        (operator_named distance aggregator outcome.problem.atoms) conflicts
         outcome.problem outcome.derivations outcome.found.answer outcome.found.proofs.items }
     ensures distance { IfOk result (λ report. report.distance ≡ distance) }
     ensures aggregator { IfOk result (λ report. report.aggregator ≡ aggregator) }
@@ -69,8 +70,8 @@ pub fn trimmed_report(
     Ok(report_of(distance, aggregator, conflicts, left))
 }
 
-/// The report of what a search under the named distance and aggregator came to, each of whose questions could
-/// learn `conflicts` steps.
+/// The report of what a search under the named distance and aggregator came to, each of whose
+/// questions could learn `conflicts` steps.
 pub fn report_of(
     distance: DistanceName,
     aggregator: AggregatorName,
@@ -79,7 +80,8 @@ pub fn report_of(
 ) -> Report
     requires some { 1 ≤ conflicts }
     requires few { conflicts ≤ conflict_limit }
-    requires outcome { IsOutcome (operator_named distance aggregator outcome.problem.atoms) conflicts
+    requires outcome { IsOutcome
+        (operator_named distance aggregator outcome.problem.atoms) conflicts
         outcome.problem outcome.derivations outcome.found.answer outcome.found.proofs.items }
     ensures distance { result.distance ≡ distance }
     ensures aggregator { result.aggregator ≡ aggregator }
