@@ -1,5 +1,0 @@
-//! Worked searches. There is nothing here but tests.
-#![tactic(auto)]
-
-#[cfg(test)]
-mod tests;
