@@ -2,6 +2,7 @@
 #![tactic(auto)]
 
 mod answering;
+mod benching;
 mod checking;
 mod commands;
 mod exact;
