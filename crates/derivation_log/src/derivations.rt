@@ -5,7 +5,7 @@ ghost use Rattle.clause_store.specs.Lits.{InRange};
 ghost use Rattle.clause_store.specs.Limits.{clause_limit};
 ghost use Rattle.derivation_log.specs.Logs.{Log, known_of, IsSound};
 ghost use Rattle.derivation_log.specs.StepLines.{HasLine};
-ghost use Rattle.derivation_log.specs.Trimming.{IsTrimmed, IsSameStep};
+ghost use Rattle.derivation_log.specs.Trimming.{IsTrimmed, IsSameStep, AreUsed};
 ghost use Rattle.std.specs.List.{AllByRecursion, AllZip};
 
 use crate::step::{Chain, Step, StepKind};
