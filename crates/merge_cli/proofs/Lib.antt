@@ -1,3 +1,4 @@
+pub mod OneBench
 pub mod OneKind
 pub mod OneList
 pub mod Benched

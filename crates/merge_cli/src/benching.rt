@@ -1,7 +1,13 @@
 ghost use Rattle.std.specs.Prelude.{◌≡◌, ◌++◌, IfOk, OnOk};
+ghost use Rattle.bench_problem.specs.Bench.{IsBench};
+ghost use Rattle.merge_model.specs.declared.operator.AggregatorName.TheVariants.{Leximax};
+ghost use Rattle.merge_model.specs.declared.operator.DistanceName.TheVariants.{Hamming};
+ghost use Rattle.merge_reports.specs.BorneOut.{IsBorneOut, IsTruthful};
 ghost use Rattle.report_lines.specs.Items.{yes_word};
-ghost use Rattle.report_lines.specs.Parts.{items_text};
+ghost use Rattle.report_lines.specs.Parts.{HasForm, items_text};
+ghost use Rattle.report_lines.specs.Reports.{IsReport, asked_in, parts_in};
 ghost use Rattle.merge_cli.specs.Bench.{BenchAnswers, bench_text, is_yes, verdict_lines};
+ghost use Rattle.merge_cli.specs.Commands.{usual_conflicts};
 
 use crate::commands::USUAL_CONFLICTS;
 use crate::merging::report_reply;
@@ -12,6 +18,7 @@ use edge::NoMemory;
 use itoa::Buffer;
 use merge_model::{AggregatorName, Answer, DistanceName, Verdict};
 use merge_reports::report_on;
+use report_lines::Report;
 use report_words::{write_bytes, write_line, write_number, write_numbers};
 use std::alloc::Global;
 
@@ -27,6 +34,21 @@ pub fn bench_reply(alloc: Global, number: u64) -> Result<Reply, NoMemory>
         USUAL_CONFLICTS,
         problem,
     )?;
+    reported(alloc, number, &report)
+}
+
+// What `bench` answers where this is the report on its problem.
+fn reported(alloc: Global, number: u64, report: &Report) -> Result<Reply, NoMemory>
+    requires problem { IsBench number report.now.problem }
+    requires distance { report.now.distance ≡ Hamming }
+    requires aggregator { report.now.aggregator ≡ Leximax }
+    requires conflicts { report.now.conflicts ≡ usual_conflicts }
+    requires whole { IsReport report.now }
+    requires form { HasForm (asked_in report.now) (parts_in report.now) }
+    requires answer { IsBorneOut report.now }
+    requires truth { IsTruthful report.now }
+    ensures { IfOk result (λ reply. BenchAnswers number reply.status reply.text.items) }
+{
     match &report.answer {
         Answer::Merged {
             measure, verdicts, ..
@@ -38,7 +60,7 @@ pub fn bench_reply(alloc: Global, number: u64) -> Result<Reply, NoMemory>
             })
         }
         Answer::Inconsistent { .. } => unreachable!(),
-        Answer::GaveUp => report_reply(alloc, &report),
+        Answer::GaveUp => report_reply(alloc, report),
     }
 }
 
