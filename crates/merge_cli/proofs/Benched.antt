@@ -80,5 +80,5 @@ pub answered_unread : (command : Command) (number : ℕ) (left : Option (List �
     → BenchAnswers number status text → Answered (CommandAnswers command) left left room room status text
 answered_unread command n left room s t is row =
     let P : Command → Type 0 = λ c. Answered (CommandAnswers c) left left room room s t in
-    let nothing : Gave left left room room [] = record { known = keeps_known left; count = refl } in
+    let nothing : Gave left left room room [] = record { known = keeps_known left; count = omega arith } in
     subst P (sym is) (record { read = []; gave = nothing; answers = (refl, row) })
