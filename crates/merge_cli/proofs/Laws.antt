@@ -88,7 +88,6 @@ own_problem (variants.List d a c q) p s text (lacking fits status reports) =
     record { not_words = λ e. omega arith; not_read = λ e. omega arith; not_written = λ e. omega arith; not_memory = λ e. omega arith }
 own_problem (variants.List d a c q) p s text (spent fits status reports) =
     record { not_words = λ e. omega arith; not_read = λ e. omega arith; not_written = λ e. omega arith; not_memory = λ e. omega arith }
-
 own_problem (Bench n) p s text row = absurd row
 
 own_benched : (number status : ℕ) (text : List ℕ) → BenchAnswers number status text → IsOwn status

@@ -51,7 +51,9 @@ fn reported(alloc: Global, number: u64, report: &Report) -> Result<Reply, NoMemo
 {
     match &report.answer {
         Answer::Merged {
-            measure, verdicts, ..
+            measure,
+            verdicts,
+            ..
         } => {
             let text = text_of(alloc, number, measure.as_slice(), verdicts.as_slice())?;
             Ok(Reply {
