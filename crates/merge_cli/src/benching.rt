@@ -3,6 +3,7 @@ ghost use Rattle.bench_problem.specs.Bench.{IsBench};
 ghost use Rattle.merge_model.specs.declared.operator.AggregatorName.TheVariants.{Leximax};
 ghost use Rattle.merge_model.specs.declared.operator.DistanceName.TheVariants.{Hamming};
 ghost use Rattle.merge_reports.specs.BorneOut.{IsBorneOut, IsTruthful};
+ghost use Rattle.merge_reports.specs.Trimmed.{IsTrimmedReport};
 ghost use Rattle.report_lines.specs.Items.{yes_word};
 ghost use Rattle.report_lines.specs.Parts.{HasForm, items_text};
 ghost use Rattle.report_lines.specs.Reports.{IsReport, asked_in, parts_in};
@@ -47,6 +48,7 @@ fn reported(alloc: Global, number: u64, report: &Report) -> Result<Reply, NoMemo
     requires form { HasForm (asked_in report.now) (parts_in report.now) }
     requires answer { IsBorneOut report.now }
     requires truth { IsTruthful report.now }
+    requires trimmed { IsTrimmedReport report.now }
     ensures { IfOk result (λ reply. BenchAnswers number reply.status reply.text.items) }
 {
     match &report.answer {

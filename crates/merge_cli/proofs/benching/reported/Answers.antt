@@ -21,5 +21,5 @@ returns-in-GaveUp c =
     let r = c.requires in
     bench_spent c.args.number c.args.report.now.problem c.report_reply.result r.problem
     (merge_answered Hamming Leximax usual_conflicts c.args.report.now.problem c.args.report.now c.report_reply.result r.distance r.aggregator r.conflicts refl
-    r.form r.answer r.truth c.report_reply.ensures.status c.report_reply.ensures.text)
+    r.form r.answer r.truth r.trimmed c.report_reply.ensures.status c.report_reply.ensures.text)
     (rw c.in-GaveUp.is at c.report_reply.ensures.status)
