@@ -1,6 +1,6 @@
 -- The rows of the table of answers are apart.
 use Rattle.std.proofs.Common.{◌≡◌, ◌≢◌, ℕ, List, [], ◌∷◌, length, arith, subst, sym, ap, refl, ◌∙◌}
-use Rattle.std.specs.Prelude.{Option, slice_index, decimal}
+use Rattle.std.specs.Prelude.{Option, slice_index, decimal, codes, [], ◌∷◌}
 use Rattle.std.proofs.lemmas.Fmt.{decimal_injective}
 use Rattle.edge.specs.Streams.{Exceeds}
 use Rattle.merge_model.specs.declared.problem.Problem.{Problem}
@@ -13,9 +13,11 @@ use Rattle.merge_model.specs.declared.operator.AggregatorName.{AggregatorName}
 use Rattle.problem_reading.specs.declared.stop.TextFault.{TextFault}
 use Rattle.merge_cli.specs.declared.commands.Command.{Command}
 use Rattle.merge_cli.specs.declared.commands.Command.TheVariants as variants
-use Rattle.merge_cli.specs.declared.commands.Command.TheVariants.{Merge, Check}
+use Rattle.merge_cli.specs.declared.commands.Command.TheVariants.{Merge, Check, Bench}
 use Rattle.merge_cli.specs.declared.place.Place.{Place}
 use Rattle.merge_cli.specs.Commands.{IsMerge, unstated, stated, merge_words, IsList, list_words, IsCommand, IsNoCommand, limit_of, Reads, ReadsProblem}
+use Rattle.merge_cli.specs.Bench.{BenchAnswers, benched}
+use Rattle.merge_cli.specs.Bench as bench
 use Rattle.merge_cli.specs.Check.{CheckAnswers, accepted, wrong}
 use Rattle.merge_cli.specs.List.{bad_after_text, bad_after, listed, lacking, spent}
 use Rattle.merge_cli.specs.Merge.{merged, inconsistent, gave_up}
@@ -33,30 +35,35 @@ pub reads_text : (command : Command) → ReadsProblem command → Reads command
 reads_text (Merge d a b) reads = tt
 reads_text Check reads = tt
 reads_text (variants.List d a c p) reads = tt
+reads_text (Bench n) reads = absurd reads
 
 pub reading_row : (command : Command) (now : Option (List ℕ)) (read : List ℕ) (status : ℕ) (text : List ℕ) → Reads command
     → CommandAnswers command now read status text → ReadAnswers (limit_of command) (TextAnswers command) now read status text
 reading_row (Merge d a b) now read s text reads row = row
 reading_row Check now read s text reads row = row
 reading_row (variants.List d a c p) now read s text reads row = row
+reading_row (Bench n) now read s text reads row = absurd reads
 
 pub text_row : (command : Command) (read : List ℕ) (status : ℕ) (text : List ℕ) → ReadsProblem command
     → TextAnswers command read status text → ProblemTextAnswers (ProblemAnswers command) read status text
 text_row (Merge d a b) read s text reads row = row
 text_row Check read s text reads row = absurd reads
 text_row (variants.List d a c p) read s text reads row = row
+text_row (Bench n) read s text reads row = absurd reads
 
 pub lacks : (command : Command) (problem : Problem) (status : ℕ) (text : List ℕ) → ProblemAnswers command problem status text
     → status ≡ 8 → LacksModel (profile_of problem)
 lacks (Merge d a b) p s text row = merge_lacks _ p s text row
 lacks Check p s text row = absurd row
 lacks (variants.List d a c q) p s text row = list_lacks _ p s text row
+lacks (Bench n) p s text row = absurd row
 
 pub lacks_none : (command : Command) (problem : Problem) (status : ℕ) (text : List ℕ) → ProblemAnswers command problem status text
     → status ≡ 0 → LacksModel (profile_of problem) → ⊥
 lacks_none (Merge d a b) p s text row = merge_lacks_none _ p s text row
 lacks_none Check p s text row = absurd row
 lacks_none (variants.List d a c q) p s text row = list_lacks_none _ p s text row
+lacks_none (Bench n) p s text row = absurd row
 
 -- a status that a command answers: not that of refused words, and none that stops a run
 pub record IsOwn (status : ℕ) : Type 0 where
@@ -81,6 +88,13 @@ own_problem (variants.List d a c q) p s text (lacking fits status reports) =
     record { not_words = λ e. omega arith; not_read = λ e. omega arith; not_written = λ e. omega arith; not_memory = λ e. omega arith }
 own_problem (variants.List d a c q) p s text (spent fits status reports) =
     record { not_words = λ e. omega arith; not_read = λ e. omega arith; not_written = λ e. omega arith; not_memory = λ e. omega arith }
+own_problem (Bench n) p s text row = absurd row
+
+own_benched : (number status : ℕ) (text : List ℕ) → BenchAnswers number status text → IsOwn status
+own_benched n s text (benched p is status benches) =
+    record { not_words = λ e. omega arith; not_read = λ e. omega arith; not_written = λ e. omega arith; not_memory = λ e. omega arith }
+own_benched n s text (bench.gave_up p is status reports) =
+    record { not_words = λ e. omega arith; not_read = λ e. omega arith; not_written = λ e. omega arith; not_memory = λ e. omega arith }
 
 own_checked : (read : List ℕ) (status : ℕ) (text : List ℕ) → CheckAnswers read status text → IsOwn status
 own_checked read s text (accepted k is true status said) =
@@ -102,6 +116,7 @@ not_refused (variants.List d a c q) p s text (bad_after misfits status said) one
 not_refused (variants.List d a c q) p s text (listed fits status lists) one = absurd (omega arith)
 not_refused (variants.List d a c q) p s text (lacking fits status reports) one = absurd (omega arith)
 not_refused (variants.List d a c q) p s text (spent fits status reports) one = absurd (omega arith)
+not_refused (Bench n) p s text row one = absurd row
 
 own_refusal : (status : ℕ) → status ≡ 1 → IsOwn status
 own_refusal s one = record { not_words = λ e. omega arith; not_read = λ e. omega arith; not_written = λ e. omega arith; not_memory = λ e. omega arith }
@@ -114,6 +129,7 @@ own_text : (command : Command) (read : List ℕ) (status : ℕ) (text : List ℕ
 own_text (Merge d a b) read s text row = own_problem_text (Merge d a b) read s text row
 own_text Check read s text row = own_checked read s text row
 own_text (variants.List d a c p) read s text row = own_problem_text (variants.List d a c p) read s text row
+own_text (Bench n) read s text row = own_benched n s text row
 
 own_reading : (command : Command) (now : Option (List ℕ)) (read : List ℕ) (status : ℕ) (text : List ℕ)
     → ReadAnswers (limit_of command) (TextAnswers command) now read status text → IsOwn status
@@ -124,6 +140,7 @@ own_command : (command : Command) (now : Option (List ℕ)) (read : List ℕ) (s
 own_command (Merge d a b) now read s text row = own_reading (Merge d a b) now read s text row
 own_command Check now read s text row = own_reading Check now read s text row
 own_command (variants.List d a c p) now read s text row = own_reading (variants.List d a c p) now read s text row
+own_command (Bench n) now read s text row = own_benched n s text row.1
 
 -- a refusal that names a line is another text than `too long`
 pub names_a_line : (fault : TextFault) → too_long_text ≢ refusal_text fault
@@ -137,6 +154,8 @@ not_long Check read s text (accepted k is true status said) one = absurd (omega 
 not_long Check read s text (wrong line k is status said) one = absurd (omega arith)
 not_long (variants.List d a c q) read s text (refused fault first status said) one = λ says. names_a_line fault (sym says ∙ said)
 not_long (variants.List d a c q) read s text (of_problem p spelled row) one = (not_refused (variants.List d a c q) p s text row one).0
+not_long (Bench n) read s text (benched p is status benches) one = absurd (omega arith)
+not_long (Bench n) read s text (bench.gave_up p is status reports) one = absurd (omega arith)
 
 pub refused_comes : (words : List (List ℕ)) (now : Option (List ℕ)) (read : List ℕ) (status : ℕ) (text : List ℕ)
     → Answers words now read status text → IsNoCommand words → status ≡ 2
@@ -165,6 +184,7 @@ too_long_command : (command : Command) (now : Option (List ℕ)) (read : List �
 too_long_command (Merge d a b) now read s text row = too_long_reading (Merge d a b) now read s text row
 too_long_command Check now read s text row = too_long_reading Check now read s text row
 too_long_command (variants.List d a c p) now read s text row = too_long_reading (variants.List d a c p) now read s text row
+too_long_command (Bench n) now read s text row = λ one says. absurd (not_long (Bench n) read s text row.1 one says)
 
 long_command : (command : Command) (now : Option (List ℕ)) (read : List ℕ) (status : ℕ) (text : List ℕ)
     → CommandAnswers command now read status text → Exceeds (limit_of command) (length read) → (status ≡ 1) × (text ≡ too_long_text)
@@ -173,6 +193,7 @@ long_command (Merge d a b) now read s text (of_text end few row) longer = absurd
 long_command Check now read s text row longer = absurd longer
 long_command (variants.List d a c p) now read s text (too_long long status said) longer = (status, said)
 long_command (variants.List d a c p) now read s text (of_text end few row) longer = absurd (few longer)
+long_command (Bench n) now read s text row longer = absurd longer
 
 pub too_long_only : (words : List (List ℕ)) (now : Option (List ℕ)) (read : List ℕ) (status : ℕ) (text : List ℕ)
     → Answers words now read status text → status ≡ 1 → text ≡ too_long_text → IsTooMuch words (length read)
@@ -232,6 +253,26 @@ list_is_no_merge words d e a f b c p h (stated is few) = begin_apart words _ _ _
 list_is_no_check : (words : List (List ℕ)) (d : DistanceName) (a : AggregatorName) (b : ℕ) (p : Place) → IsList words d a b p → IsCommand words Check → ⊥
 list_is_no_check words d a b p h check = begin_apart words _ _ _ _ h.spelled check (λ same. let n : 4 ≡ 5 = same in omega (arith, n))
 
+begin_same : (words first : List (List ℕ)) (b c : List ℕ) (second : List (List ℕ)) → words ≡ b ∷ first → words ≡ c ∷ second → b ≡ c
+begin_same words first b c second h k = let whole : b ∷ first ≡ c ∷ second = sym h ∙ k in cc
+
+one_bench : (words : List (List ℕ)) (n m : ℕ) → IsCommand words (Bench n) → IsCommand words (Bench m) → Bench n ≡ Bench m
+one_bench words n m h k =
+    let whole : codes "bench" ∷ decimal n ∷ [] ≡ codes "bench" ∷ decimal m ∷ [] = sym h.0 ∙ k.0 in
+    let number : decimal n ≡ decimal m = cc in
+    let few = h.1 in
+    let other = k.1 in
+    ap (λ (number : ℕ). Bench number) (decimal_injective n m (omega (arith, few.1)) (omega (arith, other.1)) number)
+
+bench_is_no_check : codes "bench" ≡ codes "check" → ⊥
+bench_is_no_check same = let at : 98 ≡ 99 = ap (λ (w : List ℕ). slice_index w 0) same in omega (arith, at)
+
+bench_is_no_merge : (words : List (List ℕ)) (n : ℕ) (e : DistanceName) (f : AggregatorName) (c : ℕ) → IsCommand words (Bench n) → IsMerge words e f c → ⊥
+bench_is_no_merge words n e f c h (unstated is usual) =
+    let at : 98 ≡ 109 = ap (λ (w : List ℕ). slice_index w 0) (begin_same words _ _ _ _ h.0 is) in omega (arith, at)
+bench_is_no_merge words n e f c h (stated is few) =
+    let at : 98 ≡ 109 = ap (λ (w : List ℕ). slice_index w 0) (begin_same words _ _ _ _ h.0 is) in omega (arith, at)
+
 one_command : (words : List (List ℕ)) (command other : Command) → IsCommand words command → IsCommand words other → command ≡ other
 one_command words (Merge d a b) (Merge e f c) of of_other = one_merge words d e a f b c of of_other
 one_command words (Merge d a b) Check of of_other = absurd (merge_is_no_check words d a b of of_other)
@@ -242,6 +283,13 @@ one_command words (Merge d a b) (variants.List e f c q) of of_other = absurd (li
 one_command words (variants.List d a b p) Check of of_other = absurd (list_is_no_check words d a b p of of_other)
 one_command words Check (variants.List e f c q) of of_other = absurd (list_is_no_check words e f c q of_other of)
 one_command words Check Check of of_other = refl
+one_command words (Bench n) (Bench m) of of_other = one_bench words n m of of_other
+one_command words (Bench n) (Merge e f c) of of_other = absurd (bench_is_no_merge words n e f c of of_other)
+one_command words (Merge d a b) (Bench m) of of_other = absurd (bench_is_no_merge words m d a b of_other of)
+one_command words (Bench n) Check of of_other = absurd (bench_is_no_check (begin_same words _ _ _ _ of.0 of_other))
+one_command words Check (Bench m) of of_other = absurd (bench_is_no_check (begin_same words _ _ _ _ of_other.0 of))
+one_command words (Bench n) (variants.List e f c q) of of_other = absurd (begin_apart words _ _ _ _ of.0 of_other.spelled (λ same. omega (arith, same)))
+one_command words (variants.List d a b p) (Bench m) of of_other = absurd (begin_apart words _ _ _ _ of_other.0 of.spelled (λ same. omega (arith, same)))
 
 -- the row of the table that a run of this command has
 pub row_of : (words : List (List ℕ)) (command : Command) (now : Option (List ℕ)) (read : List ℕ) (status : ℕ) (text : List ℕ)

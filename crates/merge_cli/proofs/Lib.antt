@@ -1,5 +1,7 @@
+pub mod OneBench
 pub mod OneKind
 pub mod OneList
+pub mod Benched
 pub mod Laws
 pub mod ListWords
 pub mod Listed

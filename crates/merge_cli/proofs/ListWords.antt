@@ -32,6 +32,12 @@ no_list words first none variants.Check of =
     let same : codes "list" ≡ codes "check" = one_there words 0 _ _ first there in
     let size : 4 ≡ 5 = ap (λ (w : List ℕ). length w) same in
     omega (arith, size)
+no_list words first none (variants.Bench n) of =
+    let spelled = of.0 in
+    let there : slice_get words 0 ≡ Some (codes "bench") = rw spelled refl in
+    let same : codes "list" ≡ codes "bench" = one_there words 0 _ _ first there in
+    let size : 4 ≡ 5 = ap (λ (w : List ℕ). length w) same in
+    omega (arith, size)
 
 pub list_place : (words : List (List ℕ)) (distance : DistanceName) (aggregator : AggregatorName) (count : ℕ) (place : Place)
     → IsList words distance aggregator count place → IsPlace (drop 4 words) place

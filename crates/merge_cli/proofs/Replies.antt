@@ -6,8 +6,9 @@ use Rattle.merge_model.specs.declared.operator.AggregatorName.{AggregatorName}
 use Rattle.merge_model.specs.declared.problem.Problem.{Problem}
 use Rattle.merge_cli.specs.declared.commands.Command.{Command}
 use Rattle.merge_cli.specs.declared.commands.Command.TheVariants as variants
-use Rattle.merge_cli.specs.declared.commands.Command.TheVariants.{Merge, Check}
+use Rattle.merge_cli.specs.declared.commands.Command.TheVariants.{Merge, Check, Bench}
 use Rattle.merge_cli.specs.declared.place.Place.{Place}
+use Rattle.merge_cli.specs.Bench.{BenchAnswers}
 use Rattle.merge_cli.specs.List.{ListAnswers}
 use Rattle.merge_cli.specs.declared.reply.Reply.{Reply}
 use Rattle.report_lines.specs.declared.kinds.Kind.{Kind}
@@ -71,6 +72,13 @@ pub answered_by_check : {E : Type 0} (command : Command) (read : List ℕ) (resu
     → IfOk result (λ reply. CheckAnswers read reply.status reply.text.items)
     → IfOk result (λ reply. TextAnswers command read reply.status reply.text.items)
 answered_by_check command read result is row =
+    let P : Command → Type 0 = λ c. IfOk result (λ reply. TextAnswers c read reply.status reply.text.items) in
+    subst P (sym is) row
+
+pub answered_by_bench : {E : Type 0} (command : Command) (number : ℕ) (read : List ℕ) (result : Result Reply E) → command ≡ Bench number
+    → IfOk result (λ reply. BenchAnswers number reply.status reply.text.items)
+    → IfOk result (λ reply. TextAnswers command read reply.status reply.text.items)
+answered_by_bench command number read result is row =
     let P : Command → Type 0 = λ c. IfOk result (λ reply. TextAnswers c read reply.status reply.text.items) in
     subst P (sym is) row
 

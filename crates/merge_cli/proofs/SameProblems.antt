@@ -1,5 +1,5 @@
 -- Problems of the same parts are equal: their limits add nothing.
-use Rattle.std.proofs.Common.{◌≡◌, ℕ, List, subst, ap, ◌∙◌}
+use Rattle.std.proofs.Common.{◌≡◌, ℕ, List, subst, sym, ap, ◌∙◌}
 use Rattle.std.proofs.Props.{props}
 use Rattle.formulas.specs.declared.formula.Formula.{Formula}
 use Rattle.merge_model.specs.declared.agent.Agent.{Agent}
@@ -8,6 +8,7 @@ use Rattle.merge_model.specs.Limits.{KeepsLimits}
 use Rattle.problem_reading.specs.declared.stop.TextFault.{TextFault}
 use Rattle.problem_reading.specs.declared.stop.TextKind.{TextKind}
 use Rattle.problem_reading.specs.Spelling.{Spelled, FirstFault}
+use Rattle.bench_problem.specs.Bench.{IsBench}
 use Rattle.problem_laws.proofs.TextLaws.{one_problem, one_first_fault}
 use Rattle.merge_cli.specs.Refusals.{refusal_of, refusal_text}
 
@@ -42,7 +43,15 @@ equal_problems bytes p q first second =
     same_parts p.atoms p.constraint p.agents p.asks p.limits
     q.atoms same.atoms q.constraint same.constraint q.agents same.agents q.asks same.asks q.limits
 
--- and has one first fault at most, so one refusal
+-- there is one bench problem with each number
+pub equal_benches : (number : ℕ) (p q : Problem) → IsBench number p → IsBench number q → p ≡ q
+unfolding made
+equal_benches number p q first second =
+    same_parts p.atoms p.constraint p.agents p.asks p.limits
+    q.atoms (first.atoms ∙ sym second.atoms) q.constraint (first.constraint ∙ sym second.constraint)
+    q.agents (first.agents ∙ sym second.agents) q.asks (first.asks ∙ sym second.asks) q.limits
+
+-- a text has one first fault at most, so one refusal, so one refusal
 pub equal_refusals : (bytes : List ℕ) (fault other : TextFault) → FirstFault bytes fault → FirstFault bytes other → refusal_text fault ≡ refusal_text other
 equal_refusals bytes fault other first second =
     let same = one_first_fault bytes fault other first second in

@@ -18,9 +18,10 @@ use Rattle.report_lines.specs.Places.{end_number}
 use Rattle.report_lines.proofs.NeverBoth.{never}
 use Rattle.report_lines.proofs.Once.{once}
 use Rattle.merge_cli.specs.declared.commands.Command.{Command}
-use Rattle.merge_cli.specs.declared.commands.Command.TheVariants.{Check}
+use Rattle.merge_cli.specs.declared.commands.Command.TheVariants.{Check, Bench}
 use Rattle.merge_cli.specs.Commands.{usual_conflicts, IsCommand, IsNoCommand, merge_of, limit_of, Reads, ReadsProblem}
 use Rattle.report_text.specs.Accepting.{IsBorneOutText}
+use Rattle.merge_cli.specs.Bench.{BenchAnswers}
 use Rattle.merge_cli.specs.Check.{accepted_text, wrong_line_text, CheckAnswers, accepted, wrong}
 use Rattle.merge_cli.specs.Merge.{MergeAnswers, ReportsMerge, ReportsLack, ReportsSpent, main_vars, merged, inconsistent, gave_up}
 use Rattle.merge_cli.specs.List.{Listing, ListAnswers, Lists, list_of, reported_by, bad_after_text, bad_after, listed, lacking, spent}
@@ -272,6 +273,10 @@ module _ (words : List (List ℕ)) (before now : Option (List ℕ)) (room_before
   pub refused_report_run : (bytes : List ℕ) → AsksCheck before words bytes → (line : ℕ) (k : RefusedKind) → IsFirstWrong bytes line k
       → (status ≡ 7) × (text ≡ wrong_line_text line k)
   refused_report_run bytes asks line k first = wrong_row bytes status text line k (told_check_run bytes asks) first
+
+  -- what `bench` answers
+  pub benched_run : (number : ℕ) → IsCommand words (Bench number) → BenchAnswers number status text
+  benched_run number of = (row_of words (Bench number) now answered.read status text of answered.answers).1
 
   pub listed_run : (asked : Listing) (problem : Problem) → AsksProblem before words (list_of asked) problem → status ≡ 0 → Lists asked problem text
   listed_run asked problem asks none = listed_row asked problem status text (asked_row (list_of asked) problem asks (λ one. omega arith)) none

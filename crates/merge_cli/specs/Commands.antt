@@ -7,7 +7,7 @@ use Rattle.report_lines.specs.Parts.{Asked}
 use Rattle.report_lines.specs.Places.{conflict_limit}
 use Rattle.merge_cli.specs.declared.commands.Command.{Command}
 use Rattle.merge_cli.specs.declared.commands.Command.TheVariants as variants
-use Rattle.merge_cli.specs.declared.commands.Command.TheVariants.{Merge, Check}
+use Rattle.merge_cli.specs.declared.commands.Command.TheVariants.{Merge, Check, Bench}
 use Rattle.merge_cli.specs.declared.place.Place.{Place}
 use Rattle.merge_cli.specs.Places.{IsPlace}
 
@@ -45,11 +45,20 @@ pub record IsList (words : List (List ℕ)) (distance : DistanceName) (aggregato
   pub some : IsCount count
   pub begins : IsPlace last place
 
+-- the greatest number of a bench problem
+abbrev pub bench_limit : ℕ
+bench_limit = 1000000
+
+-- a number of a bench problem that a word may give
+abbrev pub IsBenchNumber : ℕ → Type 0
+IsBenchNumber number = (1 ≤ number) × (number ≤ bench_limit)
+
 -- the words are those of this command
 abbrev pub IsCommand : List (List ℕ) → Command → Type 0
 IsCommand words (Merge distance aggregator conflicts) = IsMerge words distance aggregator conflicts
 IsCommand words Check = words ≡ codes "check" ∷ []
 IsCommand words (variants.List distance aggregator count place) = IsList words distance aggregator count place
+IsCommand words (Bench number) = (words ≡ codes "bench" ∷ decimal number ∷ []) × IsBenchNumber number
 
 -- the words are those of no command
 abbrev pub IsNoCommand : List (List ℕ) → Type 0
@@ -64,6 +73,7 @@ abbrev pub IsProper : Command → Type 0
 IsProper (Merge distance aggregator conflicts) = IsBudget conflicts
 IsProper Check = Unit {0}
 IsProper (variants.List distance aggregator count place) = IsCount count
+IsProper (Bench number) = Unit {0}
 
 -- the most bytes of a problem text
 abbrev pub text_limit : ℕ
@@ -74,15 +84,18 @@ abbrev pub limit_of : Command → Option ℕ
 limit_of (Merge distance aggregator conflicts) = Some text_limit
 limit_of Check = None
 limit_of (variants.List distance aggregator count place) = Some text_limit
+limit_of (Bench number) = None
 
 -- the command reads its source
 abbrev pub Reads : Command → Type 0
 Reads (Merge distance aggregator conflicts) = Unit {0}
 Reads Check = Unit {0}
 Reads (variants.List distance aggregator count place) = Unit {0}
+Reads (Bench number) = ⊥
 
 -- the command reads a problem text
 abbrev pub ReadsProblem : Command → Type 0
 ReadsProblem (Merge distance aggregator conflicts) = Unit {0}
 ReadsProblem Check = ⊥
 ReadsProblem (variants.List distance aggregator count place) = Unit {0}
+ReadsProblem (Bench number) = ⊥

@@ -1,4 +1,5 @@
 pub mod Answers
+pub mod Bench
 pub mod Check
 pub mod Commands
 pub mod List

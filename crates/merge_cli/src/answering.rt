@@ -4,6 +4,7 @@ ghost use Rattle.merge_cli.specs.Commands.{IsProper, ReadsProblem};
 ghost use Rattle.merge_cli.specs.Refusals.{SaysFault, SaysStop};
 ghost use Rattle.merge_cli.specs.Rows.{ProblemTextAnswers};
 
+use crate::benching::bench_reply;
 use crate::checking::check_reply;
 use crate::commands::Command;
 use crate::listing::list_reply;
@@ -24,6 +25,7 @@ pub fn text_reply(alloc: Global, command: Command, bytes: &[u8]) -> Result<Reply
     match command {
         Command::Merge(..) => problem_text_reply(alloc, command, bytes),
         Command::Check => check_reply(alloc, bytes),
+        Command::Bench(number) => bench_reply(alloc, number),
         Command::List { .. } => problem_text_reply(alloc, command, bytes),
     }
 }
@@ -58,7 +60,7 @@ fn problem_reply(alloc: Global, command: Command, problem: Problem) -> Result<Re
             count,
             place,
         } => list_reply(alloc, distance, aggregator, count, place, problem),
-        Command::Check => unreachable!(),
+        Command::Check | Command::Bench(_) => unreachable!(),
     }
 }
 

@@ -25,9 +25,11 @@ pub enum Command {
         /// Where the list begins.
         place: Place,
     },
+    /// `bench N`: merges the bench problem with this number.
+    Bench(u64),
 }
 
-ghost use Rattle.merge_cli.specs.Commands.{IsBudget, IsCount, IsCommand, IsNoCommand, limit_of};
+ghost use Rattle.merge_cli.specs.Commands.{IsBenchNumber, IsBudget, IsCount, IsCommand, IsNoCommand, limit_of};
 
 /// How many bytes a problem text may have.
 const TEXT_LIMIT: usize = 262_144;
@@ -37,6 +39,9 @@ pub const USUAL_CONFLICTS: u64 = 100_000;
 
 /// How many valuations a list may have.
 const COUNT_LIMIT: u64 = 10_000;
+
+/// The greatest number of a bench problem.
+const BENCH_LIMIT: u64 = 1_000_000;
 
 /// The command that the words spell.
 pub fn command_of(words: &Words) -> Option<Command>
@@ -58,6 +63,7 @@ pub fn command_of(words: &Words) -> Option<Command>
             conflicts_of(words.get(3))?,
         )),
         "check" if words.len() == 1 => Some(Command::Check),
+        "bench" if words.len() == 2 => Some(Command::Bench(bench_of(words.get(1))?)),
         "list" => list_of(words),
         _ => None,
     }
@@ -108,12 +114,24 @@ fn conflicts_of(word: &str) -> Option<u64>
     Some(conflicts)
 }
 
+// The number of a bench problem that a word states.
+fn bench_of(word: &str) -> Option<u64>
+    ensures some { IfSome result (λ n. (word.now ≡ decimal n) × IsBenchNumber n) }
+    ensures none { IfNone result ((n : ℕ) → IsBenchNumber n → word.now ≢ decimal n) }
+{
+    let number = number_of(word.as_bytes())?;
+    if number < 1 || number > BENCH_LIMIT {
+        return None;
+    }
+    Some(number)
+}
+
 // The most bytes that a command takes, where there is a limit.
 pub(crate) fn limit(command: &Command) -> Option<usize>
     ensures { result ≡ limit_of command.now }
 {
     match command {
         Command::Merge(..) | Command::List { .. } => Some(TEXT_LIMIT),
-        Command::Check => None,
+        Command::Check | Command::Bench(_) => None,
     }
 }

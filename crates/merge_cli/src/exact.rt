@@ -6,6 +6,8 @@ ghost use Rattle.merge_model.specs.Answers.{profile_of};
 ghost use Rattle.merge_model.specs.Merging.{LacksModel};
 ghost use Rattle.merge_cli.specs.declared.commands.Command.{Command};
 ghost use Rattle.merge_cli.specs.Commands.{IsCommand, IsNoCommand, limit_of};
+ghost use Rattle.bench_problem.specs.Bench.{IsBench};
+ghost use Rattle.merge_cli.specs.Bench.{Benches};
 ghost use Rattle.merge_cli.specs.List.{Listing, Lists};
 ghost use Rattle.merge_cli.specs.Refusals.{too_long_text};
 ghost use Rattle.merge_cli.specs.Answers.{Answers, IsTooMuch, ProblemAnswers};
@@ -53,4 +55,12 @@ pub fn lacking_is_exact()
 pub fn list_is_exact()
     ensures { (asked : Listing) (problem : Problem) (text other : List ℕ)
         → Lists asked problem text → Lists asked problem other → text ≡ other }
+{}
+
+/// A bench has one text where it is merged, whichever closest valuations its search finds: every right
+/// merge of its problem has the same measure and verdicts.
+pub fn bench_is_exact()
+    ensures { (number : ℕ) (problem second : Problem) (text other : List ℕ)
+        → IsBench number problem → IsBench number second
+        → Benches number problem text → Benches number second other → text ≡ other }
 {}

@@ -2,6 +2,7 @@
 #![tactic(auto)]
 
 mod answering;
+mod benching;
 mod checking;
 mod commands;
 mod exact;
@@ -18,6 +19,8 @@ mod tests;
 mod top;
 
 pub use commands::{Command, command_of};
-pub use exact::{lacking_is_exact, list_is_exact, refused_words_are_exact, too_long_is_exact};
+pub use exact::{
+    bench_is_exact, lacking_is_exact, list_is_exact, refused_words_are_exact, too_long_is_exact,
+};
 pub use place::Place;
 pub use top::{Outcome, run};

@@ -8,6 +8,8 @@ ghost use Rattle.merge_cli.specs.Answers.{Answers, Answered, CommandAnswers, Tex
 ghost use Rattle.merge_cli.specs.Answers.{ProblemAnswers, IsReading, IsUnread, IsTooMuch};
 ghost use Rattle.merge_cli.specs.Answers.{AsksText, AsksProblem};
 ghost use Rattle.merge_cli.specs.Answers.{AsksCheck};
+ghost use Rattle.merge_cli.specs.declared.commands.Command.TheVariants.{Bench};
+ghost use Rattle.merge_cli.specs.Bench.{BenchAnswers};
 ghost use Rattle.merge_cli.specs.Check.{CheckAnswers, accepted_text, wrong_line_text};
 ghost use Rattle.merge_cli.specs.Merge.{MergeAnswers, ReportsMerge, ReportsLack, ReportsSpent};
 ghost use Rattle.merge_cli.specs.Merge.{main_vars};
@@ -30,6 +32,7 @@ ghost use Rattle.report_lines.specs.Parts.{Asked};
 ghost use Rattle.report_lines.specs.Places.{end_number};
 ghost use Rattle.report_text.specs.Accepting.{IsBorneOutText};
 
+use crate::benching::bench_reply;
 use crate::commands::{Command, command_of};
 use crate::reading::read_reply;
 use crate::reply::{Reply, Stop, says};
@@ -67,6 +70,7 @@ fn command_reply<S: Source>(alloc: Global, command: Command, source: &mut S) -> 
         Command::Merge(..) | Command::Check | Command::List { .. } => {
             read_reply(alloc, command, source)
         }
+        Command::Bench(number) => Ok(bench_reply(alloc, number)?),
     }
 }
 
@@ -100,8 +104,8 @@ fn reply<S: Source>(alloc: Global, words: &Words, source: &mut S) -> Result<Repl
 /// - 7: the text that was checked is no accepted report, and its first wrong line is named.
 /// - 8: the constraint or a base has no model; the text is the report that says which.
 /// - 3: a question of the search learned as many steps as it might; the text is the report of that.
-/// - 0: the text is the report on the merged problem, or the list, or says what kind of report was
-///   accepted.
+/// - 0: the text is the report on the merged problem, or the list, or the measure and the verdicts
+///   of a bench, or says what kind of report was accepted.
 /// - 5: a write failed; the sink took the first `sent` bytes of the text.
 /// - 6: memory was refused, at any place before the sending; there is no text and the sink is not
 ///   called.
@@ -215,6 +219,11 @@ pub fn run<S: Source, K: Sink>(
     ensures list_accepted { (asked : Listing) (kind : Kind) → kind ≢ Merged
         → IsCommand words.now (list_of asked) → result.status ≡ end_number kind
         → IsAccepted result.text.items kind }
+
+    // What `bench` answers; it reads nothing, so no read fails.
+    ensures benched { (number : ℕ) → IsCommand words.now (Bench number)
+        → result.status ≢ 5 → result.status ≢ 6
+        → BenchAnswers number result.status result.text.items }
 
     // What `check` answers to the bytes of a source that tells them.
     ensures told_check { (bytes : List ℕ) → AsksCheck (S.left source.old) words.now bytes

@@ -1,4 +1,4 @@
-use Rattle.merge_cli.proofs.Replies.{answered_by_text, answered_by_check, answered_by_list_text}
+use Rattle.merge_cli.proofs.Replies.{answered_by_text, answered_by_check, answered_by_bench, answered_by_list_text}
 use Rattle.merge_cli.proofs.answering.text_reply.Goals as goal
 
 pub returns-in-Merge : goal.returns-in-Merge
@@ -9,3 +9,6 @@ returns-in-Check c = answered_by_check c.args.command c.args.bytes.now c.check_r
 
 pub returns-in-List : goal.returns-in-List
 returns-in-List c = answered_by_list_text c.args.command _ _ _ _ c.args.bytes.now c.problem_text_reply-in-List.result c.in-List.is c.problem_text_reply-in-List.ensures
+
+pub returns-in-Bench : goal.returns-in-Bench
+returns-in-Bench c = answered_by_bench c.args.command _ c.args.bytes.now c.bench_reply.result c.in-Bench.is c.bench_reply.ensures

@@ -1,7 +1,7 @@
 use Rattle.std.proofs.Common.{rules, arith, ◌≡◌, refl, ap, ◌∙◌}
 use Rattle.std.specs.Prelude.{codes, Some}
 use Rattle.merge_cli.specs.Commands.{unstated, stated}
-use Rattle.merge_cli.proofs.WordLists.{one_word, three_words, four_words}
+use Rattle.merge_cli.proofs.WordLists.{one_word, two_words, three_words, four_words}
 use Rattle.merge_cli.proofs.commands.command_of.Goals as goal
 
 pub returns-in_ok-of_word-in-merge-2-clause-some : goal.returns-in_ok-of_word-in-merge-2-clause-some
@@ -25,3 +25,9 @@ pub returns-in-check-clause-some : goal.returns-in-check-clause-some
 returns-in-check-clause-some c =
     let first : c.get.result.now ≡ codes "check" = search rules in
     one_word c.args.words.now _ (omega arith) (c.get.ensures ∙ ap Some first)
+
+pub returns-in_ok-bench_of-in-bench-clause-some : goal.returns-in_ok-bench_of-in-bench-clause-some
+returns-in_ok-bench_of-in-bench-clause-some c =
+    let first : c.get.result.now ≡ codes "bench" = search rules in
+    let found = c.in_ok-bench_of-in-bench.ensures.some in
+    (two_words c.args.words.now _ _ (omega arith) (c.get.ensures ∙ ap Some first) (c.get-in-bench.ensures ∙ ap Some found.0), found.1)
