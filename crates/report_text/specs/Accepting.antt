@@ -36,9 +36,3 @@ IsBorneOutText text k = (asked : Asked) × (r : Parts) × HasParts text asked r 
 abbrev pub IsEnd : List ℕ → Result Kind AcceptStop → Type 0
 IsEnd text (Ok kind) = IsAccepted text kind
 IsEnd text (Err stop) = IsStop text stop
-
--- what the next line comes to: the next checker stands where the text is open after it; or the text is refused, whatever
--- follows
-abbrev pub IsTaken : List ℕ → List ℕ → ℕ → Result Checker AcceptStop → Type 0
-IsTaken text next number (Ok checker) = (q : Position) × Stands checker q × Open text next q (number + 1)
-IsTaken text next number (Err stop) = (more : List ℕ) → IsStop (text ++ more) stop

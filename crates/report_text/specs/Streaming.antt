@@ -8,6 +8,8 @@ use Rattle.report_lines.specs.declared.kinds.Due.TheVariants as due
 use Rattle.report_lines.specs.declared.kinds.Kind.{Kind}
 use Rattle.report_text.specs.Accepting.{HasNoFeed, IsBorneOutText}
 use Rattle.report_text.specs.Open.{Open}
+use Rattle.report_text.specs.declared.accepting.AcceptStop.{AcceptStop}
+use Rattle.report_text.specs.declared.accepting.AcceptStop.TheVariants as texts
 use Rattle.report_text.specs.declared.accepting.Refused.{Refused}
 use Rattle.report_text.specs.declared.streaming.AcceptFromStop.{AcceptFromStop}
 use Rattle.report_text.specs.declared.streaming.AcceptFromStop.TheVariants as stops
@@ -59,3 +61,8 @@ abbrev pub IsStopFrom : List ℕ → AcceptFromStop → Type 0
 IsStopFrom all (stops.Refused refusal) = IsFirstWrong all refusal.line refusal.kind
 IsStopFrom all stops.Failed = Unit {0}
 IsStopFrom all stops.NoMemory = Unit {0}
+
+-- a stop of a text as one of a source
+abbrev pub stop_from : AcceptStop → AcceptFromStop
+stop_from (texts.Refused refusal) = stops.Refused refusal
+stop_from texts.NoMemory = stops.NoMemory

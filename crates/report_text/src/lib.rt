@@ -11,6 +11,8 @@ pub mod front;
 /// The log of a report, its proofs and its end.
 pub mod logging;
 mod parts;
+/// How far a report has been judged that comes in pieces.
+pub mod progress;
 /// Why a line does not lead on.
 pub mod stop;
 mod streaming;

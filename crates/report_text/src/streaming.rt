@@ -2,12 +2,17 @@
 ghost use Rattle.std.specs.Prelude.{◌≡◌, ◌≢◌, ◌≤◌, ℕ, List, Some, IfOk, IfErr, IsErrOf};
 ghost use Rattle.edge.specs.Faults.{Rose};
 ghost use Rattle.report_lines.specs.Judged.{IsAccepted};
-ghost use Rattle.report_text.specs.Streaming.{IsJudgedFrom, IsStopFrom};
+ghost use Rattle.report_text.specs.Streaming.{IsJudgedFrom, IsStopFrom, stop_from};
 
-use crate::accepting::Refused;
+use crate::accepting::{AcceptStop, Refused};
+use crate::parts::accepted_has_parts;
+use crate::progress::Progress;
 use edge::Source;
 use report_lines::Kind;
 use std::alloc::Global;
+
+/// How many bytes one read asks for.
+const PIECE: usize = 4096;
 
 /// Why what a source gives is not accepted.
 #[derive(Clone, Copy, Debug, PartialEq, Eq)]
@@ -18,6 +23,41 @@ pub enum AcceptFromStop {
     Failed,
     /// Memory was refused.
     NoMemory,
+}
+
+impl From<AcceptStop> for AcceptFromStop {
+    ghost from_gives = { λ stop from. from ≡ stop_from stop };
+
+    fn from(stop: AcceptStop) -> Self {
+        match stop {
+            AcceptStop::Refused(refused) => AcceptFromStop::Refused(refused),
+            AcceptStop::NoMemory => AcceptFromStop::NoMemory,
+        }
+    }
+}
+
+// Reads a piece, judges it, and so on.
+fn judge_from<S: Source>(alloc: Global, source: &mut S) -> Result<Kind, AcceptFromStop>
+    ensures judged { IsJudgedFrom (S.left source.old) (S.left source.new)
+        (S.room source.old) (S.room source.new) result }
+    ensures failed { IsErrOf result AcceptFromStop.Failed →
+        Rose (S.faults source.old) (S.faults source.new) }
+    ensures faults { S.faults source.old ≤ S.faults source.new }
+    ensures quiet { result ≢ Err AcceptFromStop.Failed →
+        S.faults source.new ≡ S.faults source.old }
+{
+    accepted_has_parts();
+    let mut progress = Progress::new(alloc);
+    let mut piece = [0u8; PIECE];
+    loop {
+        let Ok(count) = source.read(&mut piece) else {
+            return Err(AcceptFromStop::Failed);
+        };
+        if count == 0 {
+            return Ok(progress.end()?);
+        }
+        progress = progress.piece(alloc, &piece[..count])?;
+    }
 }
 
 /// Judges a report that a source gives, by the words of `accept`, in pieces of at most 4,096 bytes. Each line that is whole
@@ -38,6 +78,5 @@ pub fn accept_from<S: Source>(alloc: Global, source: &mut S) -> Result<Kind, Acc
     ensures quiet { result ≢ Err AcceptFromStop.Failed →
         S.faults source.new ≡ S.faults source.old }
 {
-    let _ = (alloc, source);
-    Err(AcceptFromStop::NoMemory)
+    judge_from(alloc, source)
 }
