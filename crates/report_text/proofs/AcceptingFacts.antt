@@ -2,7 +2,7 @@
 use Rattle.std.proofs.Common.{◌≡◌, ◌≢◌, ℕ, ◌+◌, ◌<◌, false, List, [], ◌∷◌, ◌++◌, length, None, Some, Result, Ok, Err, refl, ap, sym, subst, append_assoc, length-append, arith}
 use Rattle.std.specs.Prelude.{IfOk, IfErr, eqb}
 use Rattle.std.proofs.lemmas.List.{append-nil}
-use Rattle.std.proofs.lemmas.List.Elements.{All-append}
+use Rattle.std.proofs.lemmas.List.Elements.{All-nil, All-append}
 use Rattle.report_lines.specs.declared.kinds.Due.TheVariants as due
 use Rattle.report_lines.specs.declared.kinds.Kind.{Kind}
 use Rattle.report_lines.specs.declared.kinds.RefusedKind.TheVariants as refused
@@ -24,7 +24,7 @@ at_start progress h none first = record {
   place = start;
   stands = h;
   reads = subst (λ (held : List ℕ). Open [] held start progress.number) (sym none) (subst (Open [] [] start) (sym first) open_start);
-  unended = subst HasNoFeed (sym none) tt;
+  unended = subst HasNoFeed (sym none) (All-nil (λ b. eqb b 10 ≡ false));
   nothing_late = λ over. none;
 }
 
@@ -39,9 +39,6 @@ at_piece text piece progress h = record {
 
 pub before_fit : (text next : List ℕ) (progress : Progress) → StandsBefore text next progress → IsFit progress.checker
 before_fit text next progress h = is_fit progress.checker h.place h.stands
-
-pub at_fit : (text : List ℕ) (progress : Progress) → IsAt text progress → IsFit progress.checker
-at_fit text progress h = is_fit progress.checker h.place h.stands
 
 -- a line of it ends
 module _ (progress : Progress) (line text next : List ℕ) (h : StandsBefore text (line ++ 10 ∷ next) progress) (none : HasNoFeed line) where
@@ -61,7 +58,7 @@ module _ (progress : Progress) (line text next : List ℕ) (h : StandsBefore tex
     stands = right.2;
     reads = subst (λ (held : List ℕ). Open text (held ++ next) right.0 later.number) (sym empty) (subst (Open text next right.0) (sym number)
     (open_more text (progress.held.items ++ (line ++ 10 ∷ next)) h.place progress.number h.reads (progress.held.items ++ line) next split unfed right.0 right.1));
-    unended = subst HasNoFeed (sym empty) tt;
+    unended = subst HasNoFeed (sym empty) (All-nil (λ b. eqb b 10 ≡ false));
   }
 
   pub line_stop : (stop : LineStop) → (IsOver progress.checker → ⊥) → IsNext h.place (progress.held.items ++ line) (Err stop) → IsTaken text next (Err (stop_at progress.number stop))

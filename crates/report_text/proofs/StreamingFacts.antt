@@ -64,19 +64,19 @@ module _ (a b c : Option (List ℕ)) (r s t : ℕ) (progress : Progress) (h : St
 
   -- a read gave nothing, at the end
   module _ (known : Consumes b c []) (spent : 0 + t ≡ s) (over : IsAtEnd c) where
-    all : Gave a c r t h.text
-    all = subst (Gave a c r t) (append-nil h.text) (Gave-more a b c r s t h.text [] h.gave known spent)
+    whole : Gave a c r t h.text
+    whole = subst (Gave a c r t) (append-nil h.text) (Gave-more a b c r s t h.text [] h.gave known spent)
 
     pub streams_accepted : (kind : Kind) → IsAccepted h.text kind → IsBorneOutText h.text kind → IsJudgedFrom a c r t (Ok kind)
     streams_accepted kind accepted borne_out = record {
       text = h.text;
-      gave = all;
+      gave = whole;
       needed = no_more h.text progress h.reads;
       answer = record { accepted = accepted; borne_out = borne_out; at_end = over };
     }
 
     pub streams_refused : (stop : AcceptStop) → IsStop h.text stop → IsJudgedFrom a c r t (Err (stop_from stop))
-    streams_refused stop refused = record { text = h.text; gave = all; needed = no_more h.text progress h.reads; answer = end_stop h.text c stop over refused }
+    streams_refused stop refused = record { text = h.text; gave = whole; needed = no_more h.text progress h.reads; answer = end_stop h.text c stop over refused }
 
   -- a read failed
   pub streams_failed : Keeps b c → t ≡ s → IsJudgedFrom a c r t (Err stops.Failed)

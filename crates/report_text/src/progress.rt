@@ -112,7 +112,7 @@ impl Progress {
 
     /// Takes the next piece of the text: judges each line that ends in it.
     pub fn piece(self, alloc: Global, piece: &[u8]) -> Result<Progress, AcceptStop>
-        requires { IsFit self.checker }
+        requires { (text : List ℕ) × IsAt text self }
         ensures { (text : List ℕ) → IsAt text self → IsFed (text ++ piece.now) result }
     {
         let mut progress = self;
