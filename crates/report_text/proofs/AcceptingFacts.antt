@@ -57,7 +57,7 @@ module _ (progress : Progress) (line text next : List ℕ) (h : StandsBefore tex
     place = right.0;
     stands = right.2;
     reads = subst (λ (held : List ℕ). Open text (held ++ next) right.0 later.number) (sym empty) (subst (Open text next right.0) (sym number)
-    (open_more text (progress.held.items ++ (line ++ 10 ∷ next)) h.place progress.number h.reads (progress.held.items ++ line) next split unfed right.0 right.1));
+        (open_more text (progress.held.items ++ (line ++ 10 ∷ next)) h.place progress.number h.reads (progress.held.items ++ line) next split unfed right.0 right.1));
     unended = subst HasNoFeed (sym empty) (All-nil (λ b. eqb b 10 ≡ false));
   }
 

@@ -97,7 +97,7 @@ told_first : (all text : List ℕ) (now : Option (List ℕ)) (refusal : Refused)
 told_first all text None refusal known h = absurd known
 told_first all text (Some rest) refusal known h =
     elim h.lasting [
-      inl whatever ↦ subst (λ (x : List ℕ). IsFirstWrong x refusal.line refusal.kind) (sym known) (whatever rest)
+      | inl whatever ↦ subst (λ (x : List ℕ). IsFirstWrong x refusal.line refusal.kind) (sym known) (whatever rest)
       | inr over ↦ subst (λ (x : List ℕ). IsFirstWrong x refusal.line refusal.kind) (sym (all_given all text (Some rest) known over)) h.first
     ]
 

@@ -36,8 +36,8 @@ fn judge(alloc: Global, bytes: &[u8]) -> Result<Kind, AcceptStop>
     }
 }
 
-/// Judges a whole report: what it is accepted as, or its first wrong line. What is accepted has the parts of a report,
-/// which bear its answer out.
+/// Judges a whole report: what it is accepted as, or its first wrong line. What is accepted has the
+/// parts of a report, which bear its answer out.
 pub fn accept(alloc: Global, bytes: &[u8]) -> Result<Kind, AcceptStop>
     ensures ok { IfOk result (λ kind. IsAccepted bytes.now kind) }
     ensures borne_out { IfOk result (λ kind. IsBorneOutText bytes.now kind) }

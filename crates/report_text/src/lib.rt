@@ -1,4 +1,5 @@
-//! Reports as texts: written from what a search found, and checked line by line by whoever reads them.
+//! Reports as texts: written from what a search found, and checked line by line by whoever reads
+//! them.
 #![tactic(auto)]
 
 mod accepting;

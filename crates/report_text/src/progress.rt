@@ -21,7 +21,8 @@ pub struct Progress {
     pub number: u64,
 }
 
-// The first line of a text, and what stands after its line feed; `None` where there is no line feed.
+// The first line of a text, and what stands after its line feed; `None` where there is no line
+// feed.
 fn first_line(text: &[u8]) -> Option<(&[u8], &[u8])>
     ensures { MatchOption result (HasNoFeed text.now)
         (λ x. (text.now ≡ x.0.now ++ 10 ∷ x.1.now) × HasNoFeed x.0.now) }
