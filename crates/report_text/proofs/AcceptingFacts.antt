@@ -1,12 +1,11 @@
 -- What is known of a text while it is judged.
-use Rattle.std.proofs.Common.{◌≡◌, ◌≢◌, ℕ, ◌+◌, ◌<◌, false, List, [], ◌∷◌, ◌++◌, length, None, Some, Result, Ok, Err, refl, ap, sym, subst, append_assoc, length-append, arith}
+use Rattle.std.proofs.Common.{◌≡◌, ◌≢◌, ℕ, ◌+◌, ◌<◌, false, List, [], ◌∷◌, ◌++◌, length, None, Some, Result, Ok, Err, ap, sym, subst, append_assoc, length-append, arith}
 use Rattle.std.specs.Prelude.{IfOk, IfErr, eqb}
 use Rattle.std.proofs.lemmas.List.{append-nil}
 use Rattle.std.proofs.lemmas.List.Elements.{All-nil, All-append}
-use Rattle.report_lines.specs.declared.kinds.Due.TheVariants as due
 use Rattle.report_lines.specs.declared.kinds.Kind.{Kind}
 use Rattle.report_lines.specs.declared.kinds.RefusedKind.TheVariants as refused
-use Rattle.report_lines.specs.Places.{Position, start}
+use Rattle.report_lines.specs.Places.{start}
 use Rattle.report_lines.specs.Judged.{IsAccepted}
 use Rattle.report_text.specs.declared.accepting.AcceptStop.{AcceptStop}
 use Rattle.report_text.specs.declared.progress.Progress.{Progress}

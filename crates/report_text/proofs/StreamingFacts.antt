@@ -1,5 +1,5 @@
 -- What is known of a source while its text is judged.
-use Rattle.std.proofs.Common.{◌≡◌, ℕ, ◌+◌, ◌≤◌, List, [], ◌++◌, length, Option, None, Some, Result, Ok, Err, refl, sym, ap, subst, ◌∙◌, inl, inr, append_assoc, arith}
+use Rattle.std.proofs.Common.{◌≡◌, ℕ, ◌+◌, ◌≤◌, List, [], ◌++◌, length, Option, None, Some, Result, Ok, Err, refl, sym, ap, subst, ◌∙◌, inl, inr, arith}
 use Rattle.std.specs.Prelude.{IfOk, IfErr}
 use Rattle.std.specs.Io.KnownBytes.{Consumes, Keeps, IsAtEnd}
 use Rattle.std.proofs.KnownBytes.{Consumes-nil, Consumes-kept}
@@ -14,9 +14,9 @@ use Rattle.report_text.specs.declared.accepting.Refused.{Refused}
 use Rattle.report_text.specs.declared.progress.Progress.{Progress}
 use Rattle.report_text.specs.declared.streaming.AcceptFromStop.{AcceptFromStop}
 use Rattle.report_text.specs.declared.streaming.AcceptFromStop.TheVariants as stops
-use Rattle.report_text.specs.Accepting.{IsStop, IsEnd, IsBorneOutText}
+use Rattle.report_text.specs.Accepting.{IsStop, IsBorneOutText}
 use Rattle.report_text.specs.Progress.{IsAt, IsFed}
-use Rattle.report_text.specs.Streaming.{IsUndecided, IsReadNoFurther, IsAcceptedFrom, IsRefusedFrom, IsAnswerFrom, IsJudgedFrom, IsStopFrom, stop_from}
+use Rattle.report_text.specs.Streaming.{IsUndecided, IsReadNoFurther, IsRefusedFrom, IsAnswerFrom, IsJudgedFrom, IsStopFrom, stop_from}
 use Rattle.report_text.proofs.AcceptingFacts.{whole_stop}
 
 -- the source gave a text on which no answer is due yet

@@ -1,14 +1,10 @@
 -- What the judgement of a whole report says.
-use Rattle.std.specs.Prelude.{◌≡◌, ℕ, ◌+◌, false, List, ◌++◌, All, eqb, Result, Ok, Err}
+use Rattle.std.specs.Prelude.{◌≡◌, ℕ, false, List, All, eqb, Result, Ok, Err}
 use Rattle.report_lines.specs.Accepted.{Parts}
 use Rattle.report_lines.specs.Parts.{Asked, HasParts, kind_of_answer}
-use Rattle.report_lines.specs.Places.{Position}
 use Rattle.report_text.specs.PartsLaws.{IsBorneOut}
 use Rattle.report_lines.specs.Judged.{IsFirstWrong, IsAccepted}
 use Rattle.report_lines.specs.declared.kinds.Kind.{Kind}
-use Rattle.report_text.specs.declared.checker.Checker.{Checker}
-use Rattle.report_text.specs.Checker.{Stands}
-use Rattle.report_text.specs.Open.{Open}
 use Rattle.report_text.specs.declared.accepting.AcceptStop.{AcceptStop}
 use Rattle.report_text.specs.declared.accepting.AcceptStop.TheVariants as stops
 use Rattle.report_text.specs.declared.stop.LineStop.{LineStop}

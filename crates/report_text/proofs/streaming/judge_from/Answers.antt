@@ -1,5 +1,5 @@
-use Rattle.std.proofs.Common.{◌≡◌, ℕ, ◌+◌, ◌<◌, ◌≤◌, List, [], ◌++◌, length, take, refl, ap, sym, subst, ◌∙◌, arith, length-take}
-use Rattle.std.specs.Io.KnownBytes.{Consumes, IsAtEnd}
+use Rattle.std.proofs.Common.{◌≡◌, ℕ, List, [], take, refl, ap, subst, ◌∙◌, arith, length-take}
+use Rattle.std.specs.Io.KnownBytes.{Consumes}
 use Rattle.std.proofs.lemmas.Result.{err_from_is_err_and}
 use Rattle.report_text.proofs.StreamingFacts.{streams_start, streams_more, streams_stop, streams_accepted, streams_refused, streams_failed}
 use Rattle.report_text.proofs.streaming.judge_from.Goals as goal

@@ -1,5 +1,5 @@
 use Rattle.std.proofs.Common.{◌≡◌, ◌≢◌, List, ℕ, [], ◌++◌, rules, subst}
-use Rattle.report_text.proofs.AcceptingFacts.{hold_late, hold_more}
+use Rattle.report_text.proofs.AcceptingFacts.{hold_late}
 use Rattle.report_text.proofs.progress.Progress.hold.Goals as goal
 
 pub returns-then-not-is_empty : goal.returns-then-not-is_empty

@@ -1,7 +1,5 @@
 use Rattle.std.proofs.Common.{◌≡◌, List, ℕ, ◌++◌, Ok, Err, subst, rules}
-use Rattle.report_text.specs.declared.accepting.AcceptStop.{AcceptStop}
 use Rattle.report_text.specs.Checker.{IsOver, IsNext}
-use Rattle.report_text.specs.Progress.{IsTaken}
 use Rattle.report_text.proofs.AcceptingFacts.{line_late, line_right, line_stop}
 use Rattle.report_text.proofs.progress.Progress.line.Goals as goal
 
