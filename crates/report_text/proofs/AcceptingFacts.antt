@@ -1,54 +1,95 @@
 -- What is known of a text while it is judged.
-use Rattle.std.proofs.Common.{◌≡◌, ◌≢◌, ℕ, ◌+◌, ◌<◌, ◌≤◌, ◌==◌, true, List, [], ◌∷◌, ◌++◌, length, Some, Result, Ok, Err, refl, ap, sym, subst, length-append, arith}
-use Rattle.std.specs.Prelude.{IfOk, IfErr}
+use Rattle.std.proofs.Common.{◌≡◌, ◌≢◌, ℕ, ◌+◌, ◌<◌, false, List, [], ◌∷◌, ◌++◌, length, None, Some, Result, Ok, Err, ap, sym, subst, append_assoc, length-append, arith}
+use Rattle.std.specs.Prelude.{IfOk, IfErr, eqb}
 use Rattle.std.proofs.lemmas.List.{append-nil}
-use Rattle.std.proofs.lemmas.Bool.Decides.{nat_tests}
-use Rattle.report_lines.specs.declared.kinds.Due.TheVariants as due
+use Rattle.std.proofs.lemmas.List.Elements.{All-nil, All-append}
 use Rattle.report_lines.specs.declared.kinds.Kind.{Kind}
 use Rattle.report_lines.specs.declared.kinds.RefusedKind.TheVariants as refused
-use Rattle.report_lines.specs.Places.{Position, start}
+use Rattle.report_lines.specs.Places.{start}
 use Rattle.report_lines.specs.Judged.{IsAccepted}
 use Rattle.report_text.specs.declared.accepting.AcceptStop.{AcceptStop}
-use Rattle.report_text.specs.declared.checker.Checker.{Checker}
+use Rattle.report_text.specs.declared.progress.Progress.{Progress}
 use Rattle.report_text.specs.declared.stop.LineStop.{LineStop}
 use Rattle.report_text.specs.declared.stop.LineStop.TheVariants as stops
-use Rattle.report_text.specs.Accepting.{IsStop, IsTaken, IsEnd, HasNoFeed, stop_at}
+use Rattle.report_text.specs.Accepting.{IsStop, IsEnd, HasNoFeed, stop_at}
 use Rattle.report_text.specs.Checker.{Stands, IsFit, IsOver, IsNext, IsOutcome}
 use Rattle.report_text.specs.Open.{Open}
+use Rattle.report_text.specs.Progress.{StandsBefore, IsAt, IsTaken, IsFed}
 use Rattle.report_text.proofs.CheckerPlaces.{is_over, over_due, is_fit}
-use Rattle.report_text.proofs.OpenLaws.{open_all, open_more, open_wrong, open_late, open_over, open_unended}
+use Rattle.report_text.proofs.OpenLaws.{open_start, open_feed, open_more, open_wrong, open_late, open_past, open_over, open_unended}
 
--- a line
+pub at_start : (progress : Progress) → Stands progress.checker start → progress.held.items ≡ [] → progress.number ≡ 1 → IsAt [] progress
+at_start progress h none first = record {
+  place = start;
+  stands = h;
+  reads = subst (λ (held : List ℕ). Open [] held start progress.number) (sym none) (subst (Open [] [] start) (sym first) open_start);
+  unended = subst HasNoFeed (sym none) (All-nil (λ b. eqb b 10 ≡ false));
+  nothing_late = λ over. none;
+}
 
-module _ (checker : Checker) (line : List ℕ) (number : ℕ) (text rest next : List ℕ) (p : Position) (stands : Stands checker p) (reads : Open text rest p number) (e : rest ≡ line ++ 10 ∷ next) (none : HasNoFeed line) where
-  pub line_late : IsOver checker → IsTaken text next number (Err (stop_at number (stops.Wrong refused.Ended)))
-  line_late over = open_late text rest p number reads line next e none (over_due checker p stands over)
+-- a piece comes
+pub at_piece : (text piece : List ℕ) (progress : Progress) → IsAt text progress → StandsBefore (text ++ piece) piece progress
+at_piece text piece progress h = record {
+  place = h.place;
+  stands = h.stands;
+  reads = open_feed text progress.held.items piece h.place progress.number h.reads;
+  unended = h.unended;
+}
 
-  pub line_right : (later : Checker) → IsNext p line (Ok later) → IsTaken text next number (Ok later)
-  line_right later h = (h.0, h.2, open_more text rest p number reads line next e none h.0 h.1)
+pub before_fit : (text next : List ℕ) (progress : Progress) → StandsBefore text next progress → IsFit progress.checker
+before_fit text next progress h = is_fit progress.checker h.place h.stands
 
-  pub line_stop : (stop : LineStop) → (IsOver checker → ⊥) → IsNext p line (Err stop) → IsTaken text next number (Err (stop_at number stop))
-  line_stop (stops.Wrong k) unfinished h = open_wrong text rest p number reads line next e none k (λ over. unfinished (is_over checker p stands over)) h
-  line_stop stops.NoMemory unfinished h = λ more. tt
+-- a line of it ends
+module _ (progress : Progress) (line text next : List ℕ) (h : StandsBefore text (line ++ 10 ∷ next) progress) (none : HasNoFeed line) where
+  split : progress.held.items ++ (line ++ 10 ∷ next) ≡ (progress.held.items ++ line) ++ 10 ∷ next
+  split = sym (append_assoc progress.held.items line (10 ∷ next))
+
+  unfed : HasNoFeed (progress.held.items ++ line)
+  unfed = All-append (λ b. eqb b 10 ≡ false) progress.held.items line h.unended none
+
+  pub line_late : IsOver progress.checker → IsTaken text next (Err (stop_at progress.number (stops.Wrong refused.Ended)))
+  line_late over =
+      open_late text (progress.held.items ++ (line ++ 10 ∷ next)) h.place progress.number h.reads (progress.held.items ++ line) next split unfed (over_due progress.checker h.place h.stands over)
+
+  pub line_right : (later : Progress) → IsNext h.place (progress.held.items ++ line) (Ok later.checker) → later.held.items ≡ [] → later.number ≡ progress.number + 1 → IsTaken text next (Ok later)
+  line_right later right empty number = record {
+    place = right.0;
+    stands = right.2;
+    reads = subst (λ (held : List ℕ). Open text (held ++ next) right.0 later.number) (sym empty) (subst (Open text next right.0) (sym number)
+        (open_more text (progress.held.items ++ (line ++ 10 ∷ next)) h.place progress.number h.reads (progress.held.items ++ line) next split unfed right.0 right.1));
+    unended = subst HasNoFeed (sym empty) (All-nil (λ b. eqb b 10 ≡ false));
+  }
+
+  pub line_stop : (stop : LineStop) → (IsOver progress.checker → ⊥) → IsNext h.place (progress.held.items ++ line) (Err stop) → IsTaken text next (Err (stop_at progress.number stop))
+  line_stop (stops.Wrong k) unfinished wrong =
+      open_wrong text (progress.held.items ++ (line ++ 10 ∷ next)) h.place progress.number h.reads (progress.held.items ++ line) next split unfed k (λ over. unfinished (is_over progress.checker h.place h.stands over)) wrong
+  line_stop stops.NoMemory unfinished wrong = λ more. tt
+
+-- no line of it ends any more
+module _ (progress : Progress) (rest text : List ℕ) (h : StandsBefore text rest progress) (none : HasNoFeed rest) where
+  pub hold_late : IsOver progress.checker → progress.held.items ++ rest ≢ [] → IsFed text (Err (stop_at progress.number (stops.Wrong refused.Ended)))
+  hold_late over some = open_past text (progress.held.items ++ rest) h.place progress.number h.reads some (over_due progress.checker h.place h.stands over)
+
+  pub hold_more : (later : Progress) → later.checker ≡ progress.checker → later.held.items ≡ progress.held.items ++ rest → later.number ≡ progress.number → (IsOver progress.checker → later.held.items ≡ []) → IsFed text (Ok later)
+  hold_more later same held number late = record {
+    place = h.place;
+    stands = subst (λ k. Stands k h.place) (sym same) h.stands;
+    reads = subst (λ (bytes : List ℕ). Open text bytes h.place later.number) (sym held) (subst (Open text (progress.held.items ++ rest) h.place) (sym number) h.reads);
+    unended = subst HasNoFeed (sym held) (All-append (λ b. eqb b 10 ≡ false) progress.held.items rest h.unended none);
+    nothing_late = λ over. late (is_over progress.checker h.place h.stands over);
+  }
+
+pub shorter : (rest line next : List ℕ) → rest ≡ line ++ 10 ∷ next → length next < length rest
+shorter rest line next e = omega (arith, ap length e, length-append line (10 ∷ next))
 
 -- the end
 
-pub zero_is : (n : ℕ) → (n == 0) ≡ true → n ≡ 0
-zero_is n e = grind (arith, nat_tests)
+module _ (text : List ℕ) (progress : Progress) (h : IsAt text progress) where
+  pub end_over : (kind : Kind) → IsOutcome h.place (Some kind) → IsAccepted text kind
+  end_over kind o = subst (IsAccepted text) (sym o.1) (open_over text progress.held.items h.place progress.number h.reads h.unended (h.nothing_late o.0) o.0)
 
-pub no_bytes : (bytes : List ℕ) → length bytes ≡ 0 → bytes ≡ []
-no_bytes [] e = refl
-no_bytes (b ∷ bs) e = absurd (omega arith)
-
-module _ (text rest : List ℕ) (p : Position) (number : ℕ) (reads : Open text rest p number) (none : HasNoFeed rest) where
-  pub end_over : rest ≡ [] → (kind : Kind) → IsOutcome p (Some kind) → IsAccepted text kind
-  end_over e kind h = subst (IsAccepted text) (sym h.1) (open_over text rest p number reads none e h.0)
-
-  pub end_open : p.due ≢ due.Over → IsStop text (stop_at number (stops.Wrong refused.Ended))
-  end_open unfinished = open_unended text rest p number reads none (λ over e. unfinished over)
-
-  pub end_more : rest ≢ [] → IsStop text (stop_at number (stops.Wrong refused.Ended))
-  end_more some = open_unended text rest p number reads none (λ over e. some e)
+  pub end_open : IsOutcome h.place None → IsStop text (stop_at progress.number (stops.Wrong refused.Ended))
+  end_open unfinished = open_unended text progress.held.items h.place progress.number h.reads h.unended (λ over e. unfinished over)
 
 pub end_ok : (text : List ℕ) (r : Result Kind AcceptStop) → IsEnd text r → IfOk r (λ kind. IsAccepted text kind)
 end_ok text (Ok kind) h = h
@@ -57,26 +98,6 @@ end_ok text (Err stop) h = tt
 pub end_refused : (text : List ℕ) (r : Result Kind AcceptStop) → IsEnd text r → IfErr r (λ stop. IsStop text stop)
 end_refused text (Ok kind) h = tt
 end_refused text (Err stop) h = h
-
--- the checker stands where the lines that were read lead
-pub record Reads (text rest : List ℕ) (checker : Checker) (number : ℕ) : Type 0 where
-  pub place : Position
-  pub stands : Stands checker place
-  pub reads : Open text rest place number
-  pub few : number + length rest ≤ length text + 1
-
-pub reads_fit : (text rest : List ℕ) (checker : Checker) (number : ℕ) → Reads text rest checker number → IsFit checker
-reads_fit text rest checker number r = is_fit checker r.place r.stands
-
-pub reads_start : (text : List ℕ) (checker : Checker) → Stands checker start → Reads text text checker 1
-reads_start text checker h = record { place = start; stands = h; reads = open_all text; few = omega arith }
-
-pub shorter : (rest line next : List ℕ) → rest ≡ line ++ 10 ∷ next → length next < length rest
-shorter rest line next e = omega (arith, ap length e, length-append line (10 ∷ next))
-
-pub reads_more : (text rest line next : List ℕ) (checker later : Checker) (number : ℕ) → Reads text rest checker number → rest ≡ line ++ 10 ∷ next → IsTaken text next number (Ok later) → Reads text next later (number + 1)
-reads_more text rest line next checker later number r e h =
-    let s = shorter rest line next e in record { place = h.0; stands = h.1; reads = h.2; few = omega (arith, r.few) }
 
 pub whole_stop : (text : List ℕ) (stop : AcceptStop) → ((more : List ℕ) → IsStop (text ++ more) stop) → IsStop text stop
 whole_stop text stop h = subst (λ (t : List ℕ). IsStop t stop) (append-nil text) (h [])

@@ -36,3 +36,4 @@ pub mod CheckerFacts
 pub mod OpenFeeds
 pub mod OpenLaws
 pub mod AcceptingFacts
+pub mod StreamingFacts

@@ -8,7 +8,7 @@ use Rattle.report_lines.specs.declared.kinds.Due.TheVariants as due
 use Rattle.report_lines.specs.declared.kinds.RefusedKind.{RefusedKind}
 use Rattle.report_lines.specs.declared.kinds.RefusedKind.TheVariants as refused
 use Rattle.report_lines.specs.Places.{Position, start}
-use Rattle.report_lines.specs.Judged.{IsRight, IsWrong, AreRight, pieces_of, unended, after_end, wrong_line, IsFirstWrong, IsAccepted}
+use Rattle.report_lines.specs.Judged.{IsRight, IsWrong, AreRight, IsWrongNext, pieces_of, unended, after_end, wrong_line, IsFirstWrong, IsAccepted}
 use Rattle.report_text.specs.Accepting.{HasNoFeed}
 use Rattle.report_text.specs.Open.{Open}
 
@@ -24,6 +24,18 @@ some_by false b (p ∷ ps) = (b ∷ p, ps, refl)
 some_piece : (t : List ℕ) → (w : List ℕ) × (ws : List (List ℕ)) × (pieces_of t ≡ w ∷ ws)
 some_piece [] = ([], [], refl)
 some_piece (b ∷ bs) = some_by (eqb b 10) b (pieces_of bs)
+
+late_by : (c : Bool) (b : ℕ) (w : List ℕ) (ws : List (List ℕ)) (q : Position) → q.due ≡ due.Over → IsWrongNext q refused.Ended (cond c ([] ∷ w ∷ ws) (onto_first b (w ∷ ws)))
+late_by true b w ws q over = after_end [] w ws over refl
+late_by false b w [] q over = unended (b ∷ w) (λ o e. cc) refl
+late_by false b w (v ∷ ws) q over = after_end (b ∷ w) v ws over refl
+
+-- bytes come after the end
+late_bytes : (rest more : List ℕ) (q : Position) → rest ≢ [] → q.due ≡ due.Over → IsWrongNext q refused.Ended (pieces_of (rest ++ more))
+late_bytes [] more q some over = absurd (some refl)
+late_bytes (b ∷ bs) more q some over =
+    let n = some_piece (bs ++ more) in
+    subst (λ (ps : List (List ℕ)). IsWrongNext q refused.Ended (cond (eqb b 10) ([] ∷ ps) (onto_first b ps))) (sym n.2) (late_by (eqb b 10) b n.0 n.1 q over)
 
 pub open_start : Open [] [] start 1
 open_start = record { before = []; whole = λ more. refl; right = refl; count = refl }
@@ -73,6 +85,10 @@ module _ (text rest : List ℕ) (q : Position) (number : ℕ) (s : Open text res
     open_late over more =
         let n = some_piece (next ++ more) in
         record { before = s.before; rest = line ∷ n.0 ∷ n.1; place = q; whole = two_pieces more; right = s.right; number = s.count; wrong = after_end line n.0 n.1 over refl }
+
+  -- bytes come after the end: so in each text that begins so
+  pub open_past : rest ≢ [] → q.due ≡ due.Over → (more : List ℕ) → IsFirstWrong (text ++ more) number refused.Ended
+  open_past some over more = record { before = s.before; rest = pieces_of (rest ++ more); place = q; whole = s.whole more; right = s.right; number = s.count; wrong = late_bytes rest more q some over }
 
   open_last : HasNoFeed rest → pieces_of text ≡ s.before ++ rest ∷ []
   open_last none =

@@ -1,14 +1,10 @@
 -- What the judgement of a whole report says.
-use Rattle.std.specs.Prelude.{◌≡◌, ℕ, ◌+◌, false, List, ◌++◌, All, eqb, Result, Ok, Err}
+use Rattle.std.specs.Prelude.{◌≡◌, ℕ, false, List, All, eqb, Result, Ok, Err}
 use Rattle.report_lines.specs.Accepted.{Parts}
 use Rattle.report_lines.specs.Parts.{Asked, HasParts, kind_of_answer}
-use Rattle.report_lines.specs.Places.{Position}
 use Rattle.report_text.specs.PartsLaws.{IsBorneOut}
 use Rattle.report_lines.specs.Judged.{IsFirstWrong, IsAccepted}
 use Rattle.report_lines.specs.declared.kinds.Kind.{Kind}
-use Rattle.report_text.specs.declared.checker.Checker.{Checker}
-use Rattle.report_text.specs.Checker.{Stands}
-use Rattle.report_text.specs.Open.{Open}
 use Rattle.report_text.specs.declared.accepting.AcceptStop.{AcceptStop}
 use Rattle.report_text.specs.declared.accepting.AcceptStop.TheVariants as stops
 use Rattle.report_text.specs.declared.stop.LineStop.{LineStop}
@@ -36,9 +32,3 @@ IsBorneOutText text k = (asked : Asked) × (r : Parts) × HasParts text asked r 
 abbrev pub IsEnd : List ℕ → Result Kind AcceptStop → Type 0
 IsEnd text (Ok kind) = IsAccepted text kind
 IsEnd text (Err stop) = IsStop text stop
-
--- what the next line comes to: the next checker stands where the text is open after it; or the text is refused, whatever
--- follows
-abbrev pub IsTaken : List ℕ → List ℕ → ℕ → Result Checker AcceptStop → Type 0
-IsTaken text next number (Ok checker) = (q : Position) × Stands checker q × Open text next q (number + 1)
-IsTaken text next number (Err stop) = (more : List ℕ) → IsStop (text ++ more) stop

@@ -9,3 +9,5 @@ pub mod Logging
 pub mod Open
 pub mod Checker
 pub mod Accepting
+pub mod Progress
+pub mod Streaming

@@ -1,4 +1,5 @@
-//! Reports as texts: written from what a search found, and checked line by line by whoever reads them.
+//! Reports as texts: written from what a search found, and checked line by line by whoever reads
+//! them.
 #![tactic(auto)]
 
 mod accepting;
@@ -11,12 +12,16 @@ pub mod front;
 /// The log of a report, its proofs and its end.
 pub mod logging;
 mod parts;
+/// How far a report has been judged that comes in pieces.
+pub mod progress;
 /// Why a line does not lead on.
 pub mod stop;
+mod streaming;
 mod writing;
 mod written;
 
 pub use accepting::{AcceptStop, Refused, accept};
 pub use parts::{accepted_has_parts, one_parts};
+pub use streaming::{AcceptFromStop, accept_from};
 pub use writing::{write_answer, write_report};
 pub use written::written_is_accepted;
