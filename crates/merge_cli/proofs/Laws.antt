@@ -1,5 +1,5 @@
 -- The rows of the table of answers are apart.
-use Rattle.std.proofs.Common.{◌≡◌, ◌≢◌, ℕ, List, [], ◌∷◌, length, arith, subst, sym, ap, refl, ◌∙◌}
+use Rattle.std.proofs.Common.{◌≡◌, ◌≢◌, ℕ, List, [], ◌∷◌, length, arith, subst, sym, ap, refl, ◌∙◌, append-nil}
 use Rattle.std.specs.Prelude.{Option, slice_index, decimal, codes, [], ◌∷◌}
 use Rattle.std.proofs.lemmas.Fmt.{decimal_injective}
 use Rattle.edge.specs.Streams.{Exceeds}
@@ -11,14 +11,15 @@ use Rattle.merge_model.proofs.OperatorWords.{one_distance, one_aggregator}
 use Rattle.merge_model.specs.declared.operator.DistanceName.{DistanceName}
 use Rattle.merge_model.specs.declared.operator.AggregatorName.{AggregatorName}
 use Rattle.problem_reading.specs.declared.stop.TextFault.{TextFault}
+use Rattle.report_lines.specs.Judged.{IsFirstWrong}
 use Rattle.merge_cli.specs.declared.commands.Command.{Command}
 use Rattle.merge_cli.specs.declared.commands.Command.TheVariants as variants
 use Rattle.merge_cli.specs.declared.commands.Command.TheVariants.{Merge, Check, Bench}
 use Rattle.merge_cli.specs.declared.place.Place.{Place}
-use Rattle.merge_cli.specs.Commands.{IsMerge, unstated, stated, merge_words, IsList, list_words, IsCommand, IsNoCommand, limit_of, Reads, ReadsProblem}
+use Rattle.merge_cli.specs.Commands.{IsMerge, unstated, stated, merge_words, IsList, list_words, IsCommand, IsNoCommand, limit_of, ReadsProblem}
 use Rattle.merge_cli.specs.Bench.{BenchAnswers, benched}
 use Rattle.merge_cli.specs.Bench as bench
-use Rattle.merge_cli.specs.Check.{CheckAnswers, accepted, wrong}
+use Rattle.merge_cli.specs.Check.{CheckAnswers, accepted, wrong, StreamAnswers, at_end, early}
 use Rattle.merge_cli.specs.List.{bad_after_text, bad_after, listed, lacking, spent}
 use Rattle.merge_cli.specs.Merge.{merged, inconsistent, gave_up}
 use Rattle.merge_cli.specs.Refusals.{refusal_text, too_long_text}
@@ -31,25 +32,12 @@ use Rattle.merge_cli.proofs.Problems.{merge_lacks, merge_lacks_none}
 
 -- The commands, one case each.
 
-pub reads_text : (command : Command) → ReadsProblem command → Reads command
-reads_text (Merge d a b) reads = tt
-reads_text Check reads = tt
-reads_text (variants.List d a c p) reads = tt
-reads_text (Bench n) reads = absurd reads
-
-pub reading_row : (command : Command) (now : Option (List ℕ)) (read : List ℕ) (status : ℕ) (text : List ℕ) → Reads command
+pub reading_row : (command : Command) (now : Option (List ℕ)) (read : List ℕ) (status : ℕ) (text : List ℕ) → ReadsProblem command
     → CommandAnswers command now read status text → ReadAnswers (limit_of command) (TextAnswers command) now read status text
 reading_row (Merge d a b) now read s text reads row = row
-reading_row Check now read s text reads row = row
+reading_row Check now read s text reads row = absurd reads
 reading_row (variants.List d a c p) now read s text reads row = row
 reading_row (Bench n) now read s text reads row = absurd reads
-
-pub text_row : (command : Command) (read : List ℕ) (status : ℕ) (text : List ℕ) → ReadsProblem command
-    → TextAnswers command read status text → ProblemTextAnswers (ProblemAnswers command) read status text
-text_row (Merge d a b) read s text reads row = row
-text_row Check read s text reads row = absurd reads
-text_row (variants.List d a c p) read s text reads row = row
-text_row (Bench n) read s text reads row = absurd reads
 
 pub lacks : (command : Command) (problem : Problem) (status : ℕ) (text : List ℕ) → ProblemAnswers command problem status text
     → status ≡ 8 → LacksModel (profile_of problem)
@@ -102,6 +90,12 @@ own_checked read s text (accepted k is true status said) =
 own_checked read s text (wrong line k is status said) =
     record { not_words = λ e. omega arith; not_read = λ e. omega arith; not_written = λ e. omega arith; not_memory = λ e. omega arith }
 
+-- what a check read has the row that it would have as a whole text
+checked_read : (now : Option (List ℕ)) (read : List ℕ) (status : ℕ) (text : List ℕ) → StreamAnswers now read status text → CheckAnswers read status text
+checked_read now read s text (at_end end row) = row
+checked_read now read s text (early line k first status said) =
+    wrong line k (subst (λ (bytes : List ℕ). IsFirstWrong bytes line k) (append-nil read) (first [])) status said
+
 -- a problem is not answered as a text is that is too long or has a fault
 pub not_refused : (command : Command) (problem : Problem) (status : ℕ) (text : List ℕ) → ProblemAnswers command problem status text
     → status ≡ 1 → (text ≢ too_long_text) × ((fault : TextFault) → text ≢ refusal_text fault)
@@ -125,20 +119,17 @@ own_problem_text : (command : Command) (read : List ℕ) (status : ℕ) (text : 
 own_problem_text command read s text (refused fault first status said) = own_refusal s status
 own_problem_text command read s text (of_problem p spelled row) = own_problem command p s text row
 
-own_text : (command : Command) (read : List ℕ) (status : ℕ) (text : List ℕ) → TextAnswers command read status text → IsOwn status
-own_text (Merge d a b) read s text row = own_problem_text (Merge d a b) read s text row
-own_text Check read s text row = own_checked read s text row
-own_text (variants.List d a c p) read s text row = own_problem_text (variants.List d a c p) read s text row
-own_text (Bench n) read s text row = own_benched n s text row
+own_streamed : (now : Option (List ℕ)) (read : List ℕ) (status : ℕ) (text : List ℕ) → StreamAnswers now read status text → IsOwn status
+own_streamed now read s text row = own_checked read s text (checked_read now read s text row)
 
 own_reading : (command : Command) (now : Option (List ℕ)) (read : List ℕ) (status : ℕ) (text : List ℕ)
     → ReadAnswers (limit_of command) (TextAnswers command) now read status text → IsOwn status
 own_reading command now read s text (too_long long status said) = own_refusal s status
-own_reading command now read s text (of_text end few row) = own_text command read s text row
+own_reading command now read s text (of_text end few row) = own_problem_text command read s text row
 
 own_command : (command : Command) (now : Option (List ℕ)) (read : List ℕ) (status : ℕ) (text : List ℕ) → CommandAnswers command now read status text → IsOwn status
 own_command (Merge d a b) now read s text row = own_reading (Merge d a b) now read s text row
-own_command Check now read s text row = own_reading Check now read s text row
+own_command Check now read s text row = own_streamed now read s text row.1
 own_command (variants.List d a c p) now read s text row = own_reading (variants.List d a c p) now read s text row
 own_command (Bench n) now read s text row = own_benched n s text row.1
 
@@ -148,14 +139,17 @@ names_a_line fault same = let colon : 58 ≡ 32 = ap (λ (text : List ℕ). slic
 
 -- only a text that is too long is said to be
 not_long : (command : Command) (read : List ℕ) (status : ℕ) (text : List ℕ) → TextAnswers command read status text → status ≡ 1 → text ≢ too_long_text
-not_long (Merge d a b) read s text (refused fault first status said) one = λ says. names_a_line fault (sym says ∙ said)
-not_long (Merge d a b) read s text (of_problem p spelled row) one = (not_refused (Merge d a b) p s text row one).0
-not_long Check read s text (accepted k is true status said) one = absurd (omega arith)
-not_long Check read s text (wrong line k is status said) one = absurd (omega arith)
-not_long (variants.List d a c q) read s text (refused fault first status said) one = λ says. names_a_line fault (sym says ∙ said)
-not_long (variants.List d a c q) read s text (of_problem p spelled row) one = (not_refused (variants.List d a c q) p s text row one).0
-not_long (Bench n) read s text (benched p is status benches) one = absurd (omega arith)
-not_long (Bench n) read s text (bench.gave_up p is status reports) one = absurd (omega arith)
+not_long command read s text (refused fault first status said) one = λ says. names_a_line fault (sym says ∙ said)
+not_long command read s text (of_problem p spelled row) one = (not_refused command p s text row one).0
+
+-- `check` and `bench` refuse no text so
+checked_not_long : (read : List ℕ) (status : ℕ) (text : List ℕ) → CheckAnswers read status text → status ≢ 1
+checked_not_long read s text (accepted k is true status said) = λ one. omega arith
+checked_not_long read s text (wrong line k is status said) = λ one. omega arith
+
+benched_not_long : (number : ℕ) (status : ℕ) (text : List ℕ) → BenchAnswers number status text → status ≢ 1
+benched_not_long n s text (benched p is status benches) = λ one. omega arith
+benched_not_long n s text (bench.gave_up p is status reports) = λ one. omega arith
 
 pub refused_comes : (words : List (List ℕ)) (now : Option (List ℕ)) (read : List ℕ) (status : ℕ) (text : List ℕ)
     → Answers words now read status text → IsNoCommand words → status ≡ 2
@@ -182,9 +176,9 @@ too_long_reading command now read s text (of_text end few row) one says = absurd
 too_long_command : (command : Command) (now : Option (List ℕ)) (read : List ℕ) (status : ℕ) (text : List ℕ)
     → CommandAnswers command now read status text → status ≡ 1 → text ≡ too_long_text → Exceeds (limit_of command) (length read)
 too_long_command (Merge d a b) now read s text row = too_long_reading (Merge d a b) now read s text row
-too_long_command Check now read s text row = too_long_reading Check now read s text row
+too_long_command Check now read s text row = λ one says. absurd (checked_not_long read s text (checked_read now read s text row.1) one)
 too_long_command (variants.List d a c p) now read s text row = too_long_reading (variants.List d a c p) now read s text row
-too_long_command (Bench n) now read s text row = λ one says. absurd (not_long (Bench n) read s text row.1 one says)
+too_long_command (Bench n) now read s text row = λ one says. absurd (benched_not_long n s text row.1 one)
 
 long_command : (command : Command) (now : Option (List ℕ)) (read : List ℕ) (status : ℕ) (text : List ℕ)
     → CommandAnswers command now read status text → Exceeds (limit_of command) (length read) → (status ≡ 1) × (text ≡ too_long_text)

@@ -1,6 +1,6 @@
 -- What a run answers, and where its source tells its bytes, what it answers to them.
 use Rattle.std.proofs.Common.{◌≡◌, ◌≢◌, ◌≤◌, ◌+◌, ◌-◌, ◌^◌, ◌↔◌, ℕ, List, ◌++◌, length, arith, subst, sym, ap, ◌∙◌, append-nil, length-append, inl, inr}
-use Rattle.std.specs.Prelude.{◌⊎◌, Option, Some, None}
+use Rattle.std.specs.Prelude.{◌⊎◌, Option, Some, None, slice_index}
 use Rattle.std.specs.Io.KnownBytes.{Consumes, IsAtEnd}
 use Rattle.edge.specs.Streams.{Exceeds}
 use Rattle.merge_model.specs.declared.problem.Problem.{Problem}
@@ -19,17 +19,17 @@ use Rattle.report_lines.proofs.NeverBoth.{never}
 use Rattle.report_lines.proofs.Once.{once}
 use Rattle.merge_cli.specs.declared.commands.Command.{Command}
 use Rattle.merge_cli.specs.declared.commands.Command.TheVariants.{Check, Bench}
-use Rattle.merge_cli.specs.Commands.{usual_conflicts, IsCommand, IsNoCommand, merge_of, limit_of, Reads, ReadsProblem}
+use Rattle.merge_cli.specs.Commands.{usual_conflicts, IsCommand, IsNoCommand, merge_of, limit_of, ReadsProblem}
 use Rattle.report_text.specs.Accepting.{IsBorneOutText}
 use Rattle.merge_cli.specs.Bench.{BenchAnswers}
-use Rattle.merge_cli.specs.Check.{accepted_text, wrong_line_text, CheckAnswers, accepted, wrong}
+use Rattle.merge_cli.specs.Check.{accepted_text, wrong_line_text, CheckAnswers, accepted, wrong, StreamAnswers, at_end, early}
 use Rattle.merge_cli.specs.Merge.{MergeAnswers, ReportsMerge, ReportsLack, ReportsSpent, main_vars, merged, inconsistent, gave_up}
 use Rattle.merge_cli.specs.List.{Listing, ListAnswers, Lists, list_of, reported_by, bad_after_text, bad_after, listed, lacking, spent}
 use Rattle.merge_cli.specs.Places.{IsPlaceOf}
 use Rattle.merge_cli.specs.Refusals.{refusal_text, too_long_text}
 use Rattle.merge_cli.specs.Rows.{ReadAnswers, too_long, of_text, refused, of_problem}
-use Rattle.merge_cli.specs.Answers.{ProblemAnswers, TextAnswers, Answers, Answered, IsTooMuch, AsksText, AsksProblem, AsksCheck}
-use Rattle.merge_cli.proofs.Laws.{reads_text, reading_row, text_row, lacks, lacks_none, not_refused, refused_comes, refused_only, too_long_comes, too_long_only, names_a_line, row_of}
+use Rattle.merge_cli.specs.Answers.{ProblemAnswers, TextAnswers, CommandAnswers, Answers, Answered, IsTooMuch, AsksText, AsksProblem, AsksCheck}
+use Rattle.merge_cli.proofs.Laws.{reading_row, lacks, lacks_none, not_refused, refused_comes, refused_only, too_long_comes, too_long_only, names_a_line, row_of}
 use Rattle.merge_cli.proofs.OneKind.{one_kind, same_kind}
 use Rattle.merge_cli.proofs.Reported.{row_accepted, list_accepted, is_reported}
 use Rattle.merge_cli.proofs.SameProblems.{equal_problems, equal_refusals}
@@ -60,7 +60,7 @@ problem_row : (command : Command) (bytes : List ℕ) (now : Option (List ℕ)) (
     → ((status ≡ 1) × Exceeds (limit_of command) (length bytes)) ⊎ ProblemAnswers command problem status text
 problem_row command bytes now s text p reads (too_long long status said) spelled = inl (status, long)
 problem_row command bytes now s text p reads (of_text end few row) spelled =
-    elim (text_row command bytes s text reads row) [
+    elim row [
       | refused fault first status said ↦ absurd (spelled_or_faulty bytes p fault spelled first)
       | of_problem q is answer ↦ (let P : Problem → Type 0 = λ r. ProblemAnswers command r s text in inr (subst P (equal_problems bytes q p is spelled) answer))
     ]
@@ -118,7 +118,7 @@ problem_of_row : (command : Command) (now : Option (List ℕ)) (read : List ℕ)
     → ReadAnswers (limit_of command) (TextAnswers command) now read status text → status ≢ 1 → (problem : Problem) × ProblemAnswers command problem status text
 problem_of_row command now read s text reads (too_long long one said) other = absurd (other one)
 problem_of_row command now read s text reads (of_text end few row) other =
-    elim (text_row command read s text reads row) [
+    elim row [
       | refused fault first one said ↦ absurd (other one)
       | of_problem p spelled answer ↦ (p, answer)
     ]
@@ -141,6 +141,26 @@ wrong_row bytes s text line k (wrong other l is status said) first =
     let same = once bytes other line l k is first in
     (status, said ∙ ap (λ (n : ℕ). wrong_line_text n l) same.0 ∙ ap (λ (m : RefusedKind). wrong_line_text line m) same.1)
 
+-- what a check read is all that was left, or it was refused whatever else was
+told_row : (bytes : List ℕ) (now : Option (List ℕ)) (read : List ℕ) (status : ℕ) (text : List ℕ) → Consumes (Some bytes) now read
+    → StreamAnswers now read status text → CheckAnswers bytes status text
+told_row bytes None read s text lost row = absurd lost
+told_row bytes (Some rest) read s text lost (at_end end row) =
+    subst (λ (b : List ℕ). CheckAnswers b s text) (all_read bytes (Some rest) read lost end) row
+told_row bytes (Some rest) read s text lost (early line k first status said) =
+    wrong line k (subst (λ (b : List ℕ). IsFirstWrong b line k) (sym lost) (first rest)) status said
+
+-- a refusal is none of the texts of acceptance
+says_refused : (line : ℕ) (k : RefusedKind) (m : Kind) → wrong_line_text line k ≡ accepted_text m → ⊥
+says_refused line k kind.Merged same = let at : 114 ≡ 97 = ap (λ (t : List ℕ). slice_index t 0) same in omega (arith, at)
+says_refused line k kind.Inconsistent same = let at : 114 ≡ 97 = ap (λ (t : List ℕ). slice_index t 0) same in omega (arith, at)
+says_refused line k kind.Spent same = let at : 114 ≡ 97 = ap (λ (t : List ℕ). slice_index t 0) same in omega (arith, at)
+
+accepted_at_end : (now : Option (List ℕ)) (read : List ℕ) (status : ℕ) (text : List ℕ) (k : Kind) → StreamAnswers now read status text → text ≡ accepted_text k
+    → IsAtEnd now
+accepted_at_end now read s text k (at_end end row) says = end
+accepted_at_end now read s text k (early line l first status said) says = absurd (says_refused line l k (sym said ∙ says))
+
 -- what a whole run says
 module _ (words : List (List ℕ)) (before now : Option (List ℕ)) (room_before room_now status : ℕ) (text : List ℕ)
     (answered : Answered (Answers words) before now room_before room_now status text) where
@@ -161,7 +181,7 @@ module _ (words : List (List ℕ)) (before now : Option (List ℕ)) (room_before
         (subst (Exceeds (limit_of much.0)) (sym given) much.2)),
   )
 
-  pub at_end_run : (command : Command) → IsCommand words command → Reads command → ¬ (Exceeds (limit_of command) (room_before - room_now)) → IsAtEnd now
+  pub at_end_run : (command : Command) → IsCommand words command → ReadsProblem command → ¬ (Exceeds (limit_of command) (room_before - room_now)) → IsAtEnd now
   at_end_run command of reads few =
       elim (reading_row command now answered.read status text reads (row_of words command now answered.read status text of answered.answers)) [
         | too_long long one said ↦ absurd (few (subst (Exceeds (limit_of command)) given long))
@@ -173,14 +193,14 @@ module _ (words : List (List ℕ)) (before now : Option (List ℕ)) (room_before
   told_run command bytes asks =
       let P : Option (List ℕ) → Type 0 = λ left. Consumes left now answered.read in
       row_of_all (limit_of command) (TextAnswers command) bytes now answered.read status text (subst P asks.0 answered.gave.known)
-      (reading_row command now answered.read status text (reads_text command asks.2) (row_of words command now answered.read status text asks.1 answered.answers))
+      (reading_row command now answered.read status text asks.2 (row_of words command now answered.read status text asks.1 answered.answers))
 
   pub refused_run : (command : Command) (bytes : List ℕ) → AsksText before words command bytes → (fault : TextFault) → FirstFault bytes fault
       → ¬ (Exceeds (limit_of command) (length bytes)) → (status ≡ 1) × (text ≡ refusal_text fault)
   refused_run command bytes asks fault first few =
       elim (told_run command bytes asks) [
         | too_long long one said ↦ absurd (few long)
-        | of_text end short row ↦ elim (text_row command bytes status text asks.2 row) [
+        | of_text end short row ↦ elim row [
           | refused other found one said ↦ (one, said ∙ equal_refusals bytes other fault found first)
           | of_problem p is answer ↦ absurd (spelled_or_faulty bytes p fault is first)
         ]
@@ -191,7 +211,7 @@ module _ (words : List (List ℕ)) (before now : Option (List ℕ)) (room_before
   refused_only_run command bytes asks fault one says =
       elim (told_run command bytes asks) [
         | too_long long is said ↦ absurd (names_a_line fault (sym said ∙ says))
-        | of_text end short row ↦ elim (text_row command bytes status text asks.2 row) [
+        | of_text end short row ↦ elim row [
           | refused first found is said ↦ (first, found, sym said ∙ says)
           | of_problem p is answer ↦ absurd ((not_refused command p status text answer one).1 fault says)
         ]
@@ -242,14 +262,19 @@ module _ (words : List (List ℕ)) (before now : Option (List ℕ)) (room_before
       let reports = reported_run asked of (is_reported k status is).not_refused in
       row_accepted asked reports.0 status text k reports.1 is
 
+  stream_row : IsCommand words Check → CommandAnswers Check now answered.read status text
+  stream_row of = row_of words Check now answered.read status text of answered.answers
+
+  pub streamed_run : IsCommand words Check → Answered (CommandAnswers Check) before now room_before room_now status text
+  streamed_run of = record { read = answered.read; gave = answered.gave; answers = stream_row of }
+
   pub told_check_run : (bytes : List ℕ) → AsksCheck before words bytes → CheckAnswers bytes status text
   told_check_run bytes asks =
       let P : Option (List ℕ) → Type 0 = λ left. Consumes left now answered.read in
-      elim (row_of_all (limit_of Check) (TextAnswers Check) bytes now answered.read status text (subst P asks.0 answered.gave.known)
-      (reading_row Check now answered.read status text tt (row_of words Check now answered.read status text asks.1 answered.answers))) [
-        | too_long long one said ↦ absurd long
-        | of_text end few row ↦ row
-      ]
+      told_row bytes now answered.read status text (subst P asks.0 answered.gave.known) (stream_row asks.1).1
+
+  pub at_end_checked_run : (k : Kind) → IsCommand words Check → text ≡ accepted_text k → IsAtEnd now
+  at_end_checked_run k of says = accepted_at_end now answered.read status text k (stream_row of).1 says
 
   pub checked_run : (bytes : List ℕ) → AsksCheck before words bytes → (k : Kind) → ((status ≡ 0) × (text ≡ accepted_text k)) ↔ IsAccepted bytes k
   checked_run bytes asks k = (

@@ -3,12 +3,13 @@ use Rattle.std.specs.Prelude.{◌≡◌, ℕ, List, [], codes, Option, Some}
 use Rattle.edge.specs.Streams.{Exceeds, Gave}
 use Rattle.merge_model.specs.declared.problem.Problem.{Problem}
 use Rattle.problem_reading.specs.Spelling.{Spelled}
+use Rattle.report_text.specs.Streaming.{IsReadNoFurther}
 use Rattle.merge_cli.specs.declared.commands.Command.{Command}
 use Rattle.merge_cli.specs.declared.commands.Command.TheVariants as variants
 use Rattle.merge_cli.specs.declared.commands.Command.TheVariants.{Merge, Check, Bench}
 use Rattle.merge_cli.specs.Bench.{BenchAnswers}
 use Rattle.merge_cli.specs.Commands.{IsCommand, IsNoCommand, limit_of, Reads, ReadsProblem}
-use Rattle.merge_cli.specs.Check.{CheckAnswers}
+use Rattle.merge_cli.specs.Check.{StreamAnswers}
 use Rattle.merge_cli.specs.List.{ListAnswers}
 use Rattle.merge_cli.specs.Merge.{MergeAnswers}
 use Rattle.merge_cli.specs.Rows.{ReadAnswers, ProblemTextAnswers}
@@ -22,12 +23,9 @@ ProblemAnswers (Bench number) = λ problem status text. ⊥
 ProblemAnswers (variants.List distance aggregator count place) =
     ListAnswers (record { distance = distance; aggregator = aggregator; count = count; place = place })
 
--- what a command answers to a text that it read to its end; `bench` reads none and answers the same to any
+-- what a command that reads a problem text answers to it
 abbrev pub TextAnswers : Command → List ℕ → ℕ → List ℕ → Type 0
-TextAnswers (Merge distance aggregator conflicts) = ProblemTextAnswers (ProblemAnswers (Merge distance aggregator conflicts))
-TextAnswers Check = CheckAnswers
-TextAnswers (Bench number) = λ read. BenchAnswers number
-TextAnswers (variants.List distance aggregator count place) = ProblemTextAnswers (ProblemAnswers (variants.List distance aggregator count place))
+TextAnswers command = ProblemTextAnswers (ProblemAnswers command)
 
 -- A table of answers: what the source tells after the run, what was read, the status and the text.
 abbrev pub Table : Type 1
@@ -37,7 +35,7 @@ Table = Option (List ℕ) → List ℕ → ℕ → List ℕ → Type 0
 abbrev pub CommandAnswers : Command → Table
 CommandAnswers (Merge distance aggregator conflicts) =
     ReadAnswers (limit_of (Merge distance aggregator conflicts)) (TextAnswers (Merge distance aggregator conflicts))
-CommandAnswers Check = ReadAnswers (limit_of Check) (TextAnswers Check)
+CommandAnswers Check = λ now read status text. IsReadNoFurther read × StreamAnswers now read status text
 CommandAnswers (Bench number) = λ now read status text. (read ≡ []) × BenchAnswers number status text
 CommandAnswers (variants.List distance aggregator count place) =
     ReadAnswers (limit_of (variants.List distance aggregator count place)) (TextAnswers (variants.List distance aggregator count place))

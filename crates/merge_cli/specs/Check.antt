@@ -1,5 +1,6 @@
 -- What `check` answers to a text.
-use Rattle.std.specs.Prelude.{◌≡◌, ℕ, List, codes}
+use Rattle.std.specs.Prelude.{◌≡◌, ℕ, List, ◌++◌, codes, Option}
+use Rattle.std.specs.Io.KnownBytes.{IsAtEnd}
 use Rattle.report_lines.specs.declared.kinds.Kind.{Kind}
 use Rattle.report_lines.specs.declared.kinds.Kind.TheVariants as kind
 use Rattle.report_lines.specs.declared.kinds.RefusedKind.{RefusedKind}
@@ -34,3 +35,8 @@ SaysWrong refused status text = (status ≡ 7) × (text ≡ wrong_line_text refu
 pub data CheckAnswers (read : List ℕ) (status : ℕ) (text : List ℕ) : Type 0 where
   accepted : (k : Kind) → IsAccepted read k → IsBorneOutText read k → status ≡ 0 → text ≡ accepted_text k → CheckAnswers read status text
   wrong : (line : ℕ) (k : RefusedKind) → IsFirstWrong read line k → status ≡ 7 → text ≡ wrong_line_text line k → CheckAnswers read status text
+
+-- the answers to what a check read, where this is left: it read to the end, or a line is the first wrong one whatever follows
+pub data StreamAnswers (now : Option (List ℕ)) (read : List ℕ) (status : ℕ) (text : List ℕ) : Type 0 where
+  at_end : IsAtEnd now → CheckAnswers read status text → StreamAnswers now read status text
+  early : (line : ℕ) (k : RefusedKind) → ((more : List ℕ) → IsFirstWrong (read ++ more) line k) → status ≡ 7 → text ≡ wrong_line_text line k → StreamAnswers now read status text

@@ -1,11 +1,8 @@
-ghost use Rattle.std.specs.Prelude.{◌≡◌, IfOk};
+ghost use Rattle.std.specs.Prelude.{IfOk};
 ghost use Rattle.merge_cli.specs.Answers.{ProblemAnswers, TextAnswers};
 ghost use Rattle.merge_cli.specs.Commands.{IsProper, ReadsProblem};
 ghost use Rattle.merge_cli.specs.Refusals.{SaysFault, SaysStop};
-ghost use Rattle.merge_cli.specs.Rows.{ProblemTextAnswers};
 
-use crate::benching::bench_reply;
-use crate::checking::check_reply;
 use crate::commands::Command;
 use crate::listing::list_reply;
 use crate::merging::merge_reply;
@@ -17,25 +14,11 @@ use merge_model::Problem;
 use problem_reading::{TextFault, TextStop, read_problem};
 use std::alloc::Global;
 
-/// What a command answers to a text that it read to its end.
+/// What a command answers to a problem text.
 pub fn text_reply(alloc: Global, command: Command, bytes: &[u8]) -> Result<Reply, NoMemory>
     requires proper { IsProper command }
-    ensures { IfOk result (λ reply. TextAnswers command bytes.now reply.status reply.text.items) }
-{
-    match command {
-        Command::Merge(..) => problem_text_reply(alloc, command, bytes),
-        Command::Check => check_reply(alloc, bytes),
-        Command::Bench(number) => bench_reply(alloc, number),
-        Command::List { .. } => problem_text_reply(alloc, command, bytes),
-    }
-}
-
-// What a command answers to a problem text.
-fn problem_text_reply(alloc: Global, command: Command, bytes: &[u8]) -> Result<Reply, NoMemory>
-    requires proper { IsProper command }
     requires problem { ReadsProblem command }
-    ensures { IfOk result (λ reply. ProblemTextAnswers (ProblemAnswers command) bytes.now
-        reply.status reply.text.items) }
+    ensures { IfOk result (λ reply. TextAnswers command bytes.now reply.status reply.text.items) }
 {
     match read_problem(alloc, bytes) {
         Ok(problem) => problem_reply(alloc, command, problem),

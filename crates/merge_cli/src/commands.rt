@@ -14,7 +14,8 @@ pub enum Command {
     Merge(DistanceName, AggregatorName, u64),
     /// `check`: checks a report.
     Check,
-    /// `list D A COUNT AFTER`: lists the closest valuations of the text, without AFTER from the least on.
+    /// `list D A COUNT AFTER`: lists the closest valuations of the text, without AFTER from the
+    /// least on.
     List {
         /// The distance.
         distance: DistanceName,
@@ -29,7 +30,8 @@ pub enum Command {
     Bench(u64),
 }
 
-ghost use Rattle.merge_cli.specs.Commands.{IsBenchNumber, IsBudget, IsCount, IsCommand, IsNoCommand, limit_of};
+ghost use Rattle.merge_cli.specs.Commands.{IsBenchNumber, IsBudget, IsCount, IsCommand};
+ghost use Rattle.merge_cli.specs.Commands.{IsNoCommand, limit_of};
 
 /// How many bytes a problem text may have.
 const TEXT_LIMIT: usize = 262_144;

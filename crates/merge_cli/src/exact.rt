@@ -50,15 +50,15 @@ pub fn lacking_is_exact()
         → LacksModel (profile_of problem) → ⊥ }
 {}
 
-/// A problem has one list for each place and number: so `more` is its last line exactly where another
-/// closest valuation is above the last one.
+/// A problem has one list for each place and number: so `more` is its last line exactly where
+/// another closest valuation is above the last one.
 pub fn list_is_exact()
     ensures { (asked : Listing) (problem : Problem) (text other : List ℕ)
         → Lists asked problem text → Lists asked problem other → text ≡ other }
 {}
 
-/// A bench has one text where it is merged, whichever closest valuations its search finds: every right
-/// merge of its problem has the same measure and verdicts.
+/// A bench has one text where it is merged, whichever closest valuations its search finds: every
+/// right merge of its problem has the same measure and verdicts.
 pub fn bench_is_exact()
     ensures { (number : ℕ) (problem second : Problem) (text other : List ℕ)
         → IsBench number problem → IsBench number second

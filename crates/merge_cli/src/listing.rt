@@ -34,9 +34,12 @@ pub fn list_reply(
     place: Place,
     problem: Problem,
 ) -> Result<Reply, NoMemory>
-    ensures { IfOk result (λ reply. ListAnswers
-        (record { distance = distance; aggregator = aggregator; count = count; place = place }) problem
-        reply.status reply.text.items) }
+    ensures { IfOk result (λ reply. ListAnswers (record {
+      distance = distance;
+      aggregator = aggregator;
+      count = count;
+      place = place;
+    }) problem reply.status reply.text.items) }
 {
     if place.is_of(&problem) {
         listed_reply(alloc, distance, aggregator, count, place, problem)
@@ -55,9 +58,12 @@ fn listed_reply(
     problem: Problem,
 ) -> Result<Reply, NoMemory>
     requires { IsPlaceOf problem place }
-    ensures { IfOk result (λ reply. ListAnswers
-        (record { distance = distance; aggregator = aggregator; count = count; place = place }) problem
-        reply.status reply.text.items) }
+    ensures { IfOk result (λ reply. ListAnswers (record {
+      distance = distance;
+      aggregator = aggregator;
+      count = count;
+      place = place;
+    }) problem reply.status reply.text.items) }
 {
     let outcome = list_closest(
         alloc,
@@ -114,7 +120,8 @@ fn lacking_reply(
     requires laws { Laws (setting_named distance aggregator problem) }
     requires over { IsOver (setting_named distance aggregator problem) derivations }
     requires follows { IsLog derivations }
-    requires named { IsConsistency (setting_named distance aggregator problem) derivations consistency.now }
+    requires named { IsConsistency (setting_named distance aggregator problem) derivations
+        consistency.now }
     requires lacks { AllNamed consistency.now → ⊥ }
     ensures status { IfOk result (λ reply. reply.status ≢ 0) }
     ensures answers { IfOk result (λ reply. MergeAnswers (usual_asked distance aggregator) problem
@@ -169,8 +176,8 @@ fn search_reply(
     requires { IsOutcome (operator_named distance aggregator outcome.problem.atoms) usual_conflicts
         outcome.problem outcome.derivations outcome.found.answer outcome.found.proofs.items }
     ensures status { IfOk result (λ reply. reply.status ≡ status_of outcome.found.answer) }
-    ensures answers { IfOk result (λ reply. MergeAnswers (usual_asked distance aggregator) outcome.problem
-        reply.status reply.text.items) }
+    ensures answers { IfOk result (λ reply. MergeAnswers (usual_asked distance aggregator)
+        outcome.problem reply.status reply.text.items) }
 {
     let report = trimmed_report(alloc, distance, aggregator, USUAL_CONFLICTS, outcome)?;
     report_reply(alloc, &report)

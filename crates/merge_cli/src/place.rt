@@ -1,5 +1,6 @@
 // Where a list begins.
-ghost use Rattle.std.specs.Prelude.{◌≡◌, ◌≤◌, ◌∷◌, [], IfSome, IfNone, All, IsTrue, ◌↔◌, drop, length, map};
+ghost use Rattle.std.specs.Prelude.{◌≡◌, ◌≤◌, ◌∷◌, [], IfSome, IfNone, All, IsTrue, ◌↔◌, drop};
+ghost use Rattle.std.specs.Prelude.{length, map};
 
 use edge::Words;
 use formulas::Valuation;
@@ -20,7 +21,8 @@ ghost use Rattle.merge_cli.specs.declared.place.Place.{Place as At};
 ghost use Rattle.merge_cli.specs.Places.{IsPlace, IsPlaceOf, IsTruthDigit, above, is_one};
 
 impl Place {
-    /// Whether it is one of the problem: it has as many truth values as the problem has atoms, or none.
+    /// Whether it is one of the problem: it has as many truth values as the problem has atoms, or
+    /// none.
     #[tactic(auto, using(formulas::specs::WordLaws::word_size))]
     pub fn is_of(&self, problem: &Problem) -> bool
         ensures { IsTrue result ↔ IsPlaceOf problem.now self.now }

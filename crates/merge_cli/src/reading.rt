@@ -1,7 +1,7 @@
 ghost use Rattle.std.specs.Prelude.{◌≡◌, ◌≢◌, ℕ, ◌≤◌, List, IfOk, OnErr, IsErrOf};
 ghost use Rattle.edge.specs.Faults.{Rose};
 ghost use Rattle.edge.specs.Streams.{Gave};
-ghost use Rattle.merge_cli.specs.Commands.{IsProper, limit_of};
+ghost use Rattle.merge_cli.specs.Commands.{IsProper, ReadsProblem, limit_of};
 ghost use Rattle.merge_cli.specs.Answers.{Answered, TextAnswers};
 ghost use Rattle.merge_cli.specs.Rows.{ReadAnswers};
 
@@ -12,10 +12,11 @@ use crate::status::REFUSED;
 use edge::{ReadStop, Source, read_all};
 use std::alloc::Global;
 
-/// Reads the source to its end, if it has no more than the command takes, and answers its text.
-/// After a stop the source has lost the bytes that were read.
+/// Reads the source to its end, if it has no more than the command takes, and answers its problem
+/// text. After a stop the source has lost the bytes that were read.
 pub fn read_reply<S: Source>(alloc: Global, command: Command, source: &mut S) -> Result<Reply, Stop>
-    requires { IsProper command }
+    requires proper { IsProper command }
+    requires problem { ReadsProblem command }
     ensures ok { IfOk result (λ reply.
         Answered (ReadAnswers (limit_of command) (TextAnswers command))
         (S.left source.old) (S.left source.new) (S.room source.old) (S.room source.new)

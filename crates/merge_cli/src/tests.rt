@@ -128,6 +128,28 @@ fn writes_reports_that_are_accepted(rt: HostRuntime) -> Result<(), Fail> {
 }
 
 #[test]
+fn refuses_a_report_before_a_later_read_fails(rt: HostRuntime) -> Result<(), Fail> {
+    let alloc = rt.alloc();
+    let words = words_of(alloc, "check")?;
+    // A report whose third read of 30 bytes fails, the status, and the answer.
+    let rows = [
+        (
+            "merge-report 9\ndistance hamming\naggregator sum\nconflicts 100000\natoms a\n",
+            7,
+            "refused line 1: form\n",
+        ),
+        (FRONT, 4, ""),
+    ];
+    for (report, status, text) in rows {
+        let mut source = MemorySource::new(Vec::from_slice(alloc, report.as_bytes())?, 30, 3);
+        let outcome = run(alloc, &words, &mut source, &mut NullSink::new());
+        assert_eq!(rt; outcome.status, status);
+        assert_eq!(rt; outcome.text.as_slice(), text.as_bytes());
+    }
+    Ok(())
+}
+
+#[test]
 fn names_a_failed_read_and_a_full_sink(rt: HostRuntime) -> Result<(), Fail> {
     let alloc = rt.alloc();
     let words = words_of(alloc, "merge hamming sum")?;

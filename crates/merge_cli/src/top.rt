@@ -4,18 +4,20 @@ ghost use Rattle.std.specs.Io.KnownBytes.{Appends, IsAtEnd};
 ghost use Rattle.edge.specs.Faults.{Rose};
 ghost use Rattle.edge.specs.Streams.{Exceeds, Gave};
 ghost use Rattle.merge_cli.specs.Commands.{IsCommand, IsNoCommand, IsProper, limit_of, Reads};
+ghost use Rattle.merge_cli.specs.Commands.{ReadsProblem};
 ghost use Rattle.merge_cli.specs.Answers.{Answers, Answered, CommandAnswers, TextAnswers};
 ghost use Rattle.merge_cli.specs.Answers.{ProblemAnswers, IsReading, IsUnread, IsTooMuch};
 ghost use Rattle.merge_cli.specs.Answers.{AsksText, AsksProblem};
 ghost use Rattle.merge_cli.specs.Answers.{AsksCheck};
-ghost use Rattle.merge_cli.specs.declared.commands.Command.TheVariants.{Bench};
+ghost use Rattle.merge_cli.specs.declared.commands.Command.TheVariants.{Bench, Check};
 ghost use Rattle.merge_cli.specs.Bench.{BenchAnswers};
 ghost use Rattle.merge_cli.specs.Check.{CheckAnswers, accepted_text, wrong_line_text};
 ghost use Rattle.merge_cli.specs.Merge.{MergeAnswers, ReportsMerge, ReportsLack, ReportsSpent};
 ghost use Rattle.merge_cli.specs.Merge.{main_vars};
 ghost use Rattle.merge_cli.specs.Commands.{merge_of};
 ghost use Rattle.merge_cli.specs.Commands.{usual_conflicts};
-ghost use Rattle.merge_cli.specs.List.{Listing, ListAnswers, Lists, list_of, reported_by, bad_after_text};
+ghost use Rattle.merge_cli.specs.List.{Listing, ListAnswers, Lists, list_of, reported_by};
+ghost use Rattle.merge_cli.specs.List.{bad_after_text};
 ghost use Rattle.merge_cli.specs.Places.{IsPlaceOf};
 ghost use Rattle.merge_cli.specs.Refusals.{refusal_text, too_long_text};
 ghost use Rattle.merge_cli.specs.Rows.{ReadAnswers};
@@ -33,6 +35,7 @@ ghost use Rattle.report_lines.specs.Places.{end_number};
 ghost use Rattle.report_text.specs.Accepting.{IsBorneOutText};
 
 use crate::benching::bench_reply;
+use crate::checking::check_reply;
 use crate::commands::{Command, command_of};
 use crate::reading::read_reply;
 use crate::reply::{Reply, Stop, says};
@@ -67,9 +70,8 @@ fn command_reply<S: Source>(alloc: Global, command: Command, source: &mut S) -> 
     ensures unread { ¬ (Reads command) → source.new ≡ source.old }
 {
     match command {
-        Command::Merge(..) | Command::Check | Command::List { .. } => {
-            read_reply(alloc, command, source)
-        }
+        Command::Merge(..) | Command::List { .. } => read_reply(alloc, command, source),
+        Command::Check => check_reply(alloc, source),
         Command::Bench(number) => Ok(bench_reply(alloc, number)?),
     }
 }
@@ -101,7 +103,8 @@ fn reply<S: Source>(alloc: Global, words: &Words, source: &mut S) -> Result<Repl
 /// - 4: a read failed; there is no text and the sink is not called.
 /// - 1: the text is refused: it has more than 262,144 bytes, or its first fault is named; or a list
 ///   begins at a place with another number of truth values than the problem has atoms.
-/// - 7: the text that was checked is no accepted report, and its first wrong line is named.
+/// - 7: the text that is checked is no accepted report, and its first wrong line is named; nothing
+///   is read after the piece that shows it.
 /// - 8: the constraint or a base has no model; the text is the report that says which.
 /// - 3: a question of the search learned as many steps as it might; the text is the report of that.
 /// - 0: the text is the report on the merged problem, or the list, or the measure and the verdicts
@@ -225,6 +228,12 @@ pub fn run<S: Source, K: Sink>(
         → result.status ≢ 5 → result.status ≢ 6
         → BenchAnswers number result.status result.text.items }
 
+    // What `check` answers to what any source gave.
+    ensures streamed { IsCommand words.now Check
+        → result.status ≢ 4 → result.status ≢ 5 → result.status ≢ 6
+        → Answered (CommandAnswers Check) (S.left source.old) (S.left source.new)
+        (S.room source.old) (S.room source.new) result.status result.text.items }
+
     // What `check` answers to the bytes of a source that tells them.
     ensures told_check { (bytes : List ℕ) → AsksCheck (S.left source.old) words.now bytes
         → result.status ≢ 4 → result.status ≢ 5 → result.status ≢ 6
@@ -257,12 +266,15 @@ pub fn run<S: Source, K: Sink>(
     ensures whole { result.status ≢ 5 → result.sent ≡ length result.text.items }
 
     // The source gave some bytes and has those left that it had after them, however the run ended.
-    // A text that is not too long is read to its end, and a run that asks no text reads nothing.
+    // A problem text that is not too long is read to its end, and so is a report that is accepted.
+    // A run that asks no text reads nothing.
     ensures source { (bytes : List ℕ) × Gave (S.left source.old) (S.left source.new)
         (S.room source.old) (S.room source.new) bytes }
-    ensures at_end { (command : Command) → IsCommand words.now command → Reads command
+    ensures at_end { (command : Command) → IsCommand words.now command → ReadsProblem command
         → ¬ (Exceeds (limit_of command) (S.room source.old - S.room source.new))
         → result.status ≢ 4 → result.status ≢ 6 → IsAtEnd (S.left source.new) }
+    ensures at_end_checked { (kind : Kind) → IsCommand words.now Check
+        → result.text.items ≡ accepted_text kind → IsAtEnd (S.left source.new) }
     ensures unread { IsUnread words.now → source.new ≡ source.old }
 
     // A count of faults rises only where the status tells it.

@@ -1,7 +1,7 @@
 use Rattle.std.proofs.Common.{inl, inr, refl}
 use Rattle.merge_cli.proofs.Reported.{is_reported}
 use Rattle.merge_cli.proofs.Laws.{no_stop}
-use Rattle.merge_cli.proofs.Told.{refused_words_run, too_long_run, at_end_run, told_run, refused_run, refused_only_run, problem_run, lacking_run, not_merged_run, merged_run, inconsistent_run, gave_up_run, ample_run, reported_run, accepted_run, told_check_run, checked_run, checked_true_run, refused_report_run, refused_report_only_run, bad_after_run, listed_run, list_lacks_run, list_gave_up_run, list_ample_run, benched_run, reported_list_run, accepted_list_run}
+use Rattle.merge_cli.proofs.Told.{refused_words_run, too_long_run, at_end_run, told_run, refused_run, refused_only_run, problem_run, lacking_run, not_merged_run, merged_run, inconsistent_run, gave_up_run, ample_run, reported_run, accepted_run, streamed_run, told_check_run, at_end_checked_run, checked_run, checked_true_run, refused_report_run, refused_report_only_run, bad_after_run, listed_run, list_lacks_run, list_gave_up_run, list_ample_run, benched_run, reported_list_run, accepted_list_run}
 use Rattle.merge_cli.proofs.top.run.Goals as goal
 
 pub returns-in-Ok-send_all-clause-read_fault : goal.returns-in-Ok-send_all-clause-read_fault
@@ -96,6 +96,9 @@ returns-in-Err-Failed-clause-list_accepted g c = λ asked k other of is. absurd 
 pub returns-in-Err-NoMemory-clause-list_accepted : goal.returns-in-Err-NoMemory-clause-list_accepted
 returns-in-Err-NoMemory-clause-list_accepted g c = λ asked k other of is. absurd ((is_reported k _ is).not_memory refl)
 
+pub returns-in-Ok-send_all-clause-streamed : goal.returns-in-Ok-send_all-clause-streamed
+returns-in-Ok-send_all-clause-streamed g c = λ of four five six. streamed_run _ _ _ _ _ _ _ c.in-Ok.ensures.ok of
+
 pub returns-in-Ok-send_all-clause-told_check : goal.returns-in-Ok-send_all-clause-told_check
 returns-in-Ok-send_all-clause-told_check g c = λ bytes asks four five six. told_check_run _ _ _ _ _ _ _ c.in-Ok.ensures.ok bytes asks
 
@@ -116,6 +119,12 @@ returns-in-Ok-send_all-clause-at_end g c = λ command is reads few four six. at_
 
 pub returns-in-Err-clause-at_end : goal.returns-in-Err-clause-at_end
 returns-in-Err-clause-at_end g c = λ command is reads few four six. at_end_run _ _ _ _ _ _ _ c.in-Ok.ensures.ok command is reads few
+
+pub returns-in-Ok-send_all-clause-at_end_checked : goal.returns-in-Ok-send_all-clause-at_end_checked
+returns-in-Ok-send_all-clause-at_end_checked g c = λ k of says. at_end_checked_run _ _ _ _ _ _ _ c.in-Ok.ensures.ok k of says
+
+pub returns-in-Err-clause-at_end_checked : goal.returns-in-Err-clause-at_end_checked
+returns-in-Err-clause-at_end_checked g c = λ k of says. at_end_checked_run _ _ _ _ _ _ _ c.in-Ok.ensures.ok k of says
 
 pub returns-in-Ok-send_all-clause-benched : goal.returns-in-Ok-send_all-clause-benched
 returns-in-Ok-send_all-clause-benched g c = λ number of five six. benched_run _ _ _ _ _ _ _ c.in-Ok.ensures.ok number of
