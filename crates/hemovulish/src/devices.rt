@@ -54,7 +54,10 @@ fn end_with_failing_write(alloc: Global, after: usize) -> Result<(u8, usize), Fa
 fn a_failed_read_sends_nothing(rt: HostRuntime) -> Result<(), Fail> {
     let alloc = rt.alloc();
     for number in 1..=12 {
-        assert_eq!(rt; end_with_failing_read(alloc, number)?, (status::READ_FAULT, 0));
+        assert_eq!(rt;
+            end_with_failing_read(alloc, number)?,
+            (status::READ_FAULT, 0)
+        );
     }
     let end = end_with_failing_read(alloc, 13)?;
     assert_eq!(rt; end, (status::ANSWERED, whole_length(alloc)?));
@@ -65,6 +68,7 @@ fn a_failed_read_sends_nothing(rt: HostRuntime) -> Result<(), Fail> {
 fn a_full_sink_took_what_it_has_room_for(rt: HostRuntime) -> Result<(), Fail> {
     let alloc = rt.alloc();
     let whole = whole_length(alloc)?;
+    assert!(rt; whole > 0);
     for room in 0..whole {
         assert_eq!(rt; end_with_room(alloc, room)?, (status::WRITE_FAULT, room));
     }
@@ -76,6 +80,7 @@ fn a_full_sink_took_what_it_has_room_for(rt: HostRuntime) -> Result<(), Fail> {
 fn a_failed_write_comes_after_those_before_it(rt: HostRuntime) -> Result<(), Fail> {
     let alloc = rt.alloc();
     let whole = whole_length(alloc)?;
+    assert!(rt; whole > 0);
     for sent in (0..whole).step_by(4) {
         let end = end_with_failing_write(alloc, sent)?;
         assert_eq!(rt; end, (status::WRITE_FAULT, sent));
