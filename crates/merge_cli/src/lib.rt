@@ -14,8 +14,6 @@ mod refusal;
 mod reply;
 /// The exit statuses.
 pub mod status;
-#[cfg(test)]
-mod tests;
 mod top;
 
 pub use commands::{Command, command_of};

@@ -1,5 +1,5 @@
-use crate::run;
-use edge::{MemorySink, MemorySource, NullSink, PlainSource, Words};
+use edge::{MemorySource, NullSink, PlainSource, Words};
+use merge_cli::run;
 use std::alloc::Global;
 use std::test::Fail;
 
@@ -145,22 +145,6 @@ fn refuses_a_report_before_a_later_read_fails(rt: HostRuntime) -> Result<(), Fai
         let outcome = run(alloc, &words, &mut source, &mut NullSink::new());
         assert_eq!(rt; outcome.status, status);
         assert_eq!(rt; outcome.text.as_slice(), text.as_bytes());
-    }
-    Ok(())
-}
-
-#[test]
-fn names_a_failed_read_and_a_full_sink(rt: HostRuntime) -> Result<(), Fail> {
-    let alloc = rt.alloc();
-    let words = words_of(alloc, "merge hamming sum")?;
-    // Which read fails, the status, how much is sent, and what the sink holds.
-    for (fail_at, status, sent, held) in [(2, 4, 0, ""), (0, 5, 10, "merge-repo")] {
-        let mut source = MemorySource::new(Vec::from_slice(alloc, TEXT.as_bytes())?, 4, fail_at);
-        let mut sink = MemorySink::new(alloc, 10, 3)?;
-        let outcome = run(alloc, &words, &mut source, &mut sink);
-        assert_eq!(rt; outcome.status, status);
-        assert_eq!(rt; outcome.sent, sent);
-        assert_eq!(rt; sink.as_slice(), held.as_bytes());
     }
     Ok(())
 }
