@@ -267,7 +267,7 @@ bench_is_no_merge words n e f c h (unstated is usual) =
 bench_is_no_merge words n e f c h (stated is few) =
     let at : 98 ≡ 109 = ap (λ (w : List ℕ). slice_index w 0) (begin_same words _ _ _ _ h.0 is) in omega (arith, at)
 
-one_command : (words : List (List ℕ)) (command other : Command) → IsCommand words command → IsCommand words other → command ≡ other
+pub one_command : (words : List (List ℕ)) (command other : Command) → IsCommand words command → IsCommand words other → command ≡ other
 one_command words (Merge d a b) (Merge e f c) of of_other = one_merge words d e a f b c of of_other
 one_command words (Merge d a b) Check of of_other = absurd (merge_is_no_check words d a b of of_other)
 one_command words Check (Merge e f c) of of_other = absurd (merge_is_no_check words e f c of_other of)

@@ -11,7 +11,7 @@ use Rattle.merge_cli.specs.declared.place.Place.{Place}
 use Rattle.merge_cli.specs.List.{ListAnswers}
 use Rattle.merge_cli.specs.declared.reply.Reply.{Reply}
 use Rattle.report_lines.specs.declared.kinds.Kind.{Kind}
-use Rattle.merge_cli.specs.Check.{accepted_text, SaysWrong, CheckAnswers, accepted, wrong, StreamAnswers, at_end, early}
+use Rattle.merge_cli.specs.Check.{accepted_text, SaysWrong, GaveUndecided, CheckAnswers, accepted, wrong, StreamAnswers, at_end, early}
 use Rattle.report_text.specs.Streaming.{IsJudgedFrom, IsAnswerFrom, IsRefusedFrom}
 use Rattle.report_text.specs.declared.streaming.AcceptFromStop.{AcceptFromStop}
 use Rattle.report_text.specs.declared.streaming.AcceptFromStop.TheVariants as stops
@@ -54,6 +54,12 @@ module _ (before now : Option (List ℕ)) (room_before room_now status : ℕ) (t
       let answer = judged.answer in
       let row : CheckAnswers judged.text status text = accepted k answer.accepted answer.borne_out says.0 (says.1 ∙ said) in
       record { read = judged.text; gave = judged.gave; answers = (judged.needed, at_end answer.at_end row) }
+
+  pub undecided_reply : (stop : AcceptFromStop) → IsJudgedFrom before now room_before room_now (Err stop) → stop ≡ stops.Failed
+      → GaveUndecided before now room_before room_now
+  undecided_reply stop judged is =
+      let P : AcceptFromStop → Type 0 = λ other. IsAnswerFrom judged.text now (Err other) in
+      (judged.text, judged.gave, subst P is judged.answer)
 
   pub wrong_line_reply : (stop : AcceptFromStop) (refused : Refused) → IsJudgedFrom before now room_before room_now (Err stop) → stop ≡ stops.Refused refused
       → SaysWrong refused status text → Answered (CommandAnswers Check) before now room_before room_now status text

@@ -6,7 +6,9 @@ use Rattle.report_lines.specs.declared.kinds.Kind.TheVariants as kind
 use Rattle.report_lines.specs.declared.kinds.RefusedKind.{RefusedKind}
 use Rattle.report_lines.specs.declared.kinds.RefusedKind.TheVariants as refused
 use Rattle.report_lines.specs.Judged.{IsAccepted, IsFirstWrong}
+use Rattle.edge.specs.Streams.{Gave}
 use Rattle.report_text.specs.Accepting.{IsBorneOutText}
+use Rattle.report_text.specs.Streaming.{IsUndecided}
 use Rattle.report_text.specs.declared.accepting.Refused.{Refused}
 use Rattle.merge_cli.specs.Refusals.{line_refusal_text}
 
@@ -40,3 +42,7 @@ pub data CheckAnswers (read : List ℕ) (status : ℕ) (text : List ℕ) : Type 
 pub data StreamAnswers (now : Option (List ℕ)) (read : List ℕ) (status : ℕ) (text : List ℕ) : Type 0 where
   at_end : IsAtEnd now → CheckAnswers read status text → StreamAnswers now read status text
   early : (line : ℕ) (k : RefusedKind) → ((more : List ℕ) → IsFirstWrong (read ++ more) line k) → status ≡ 7 → text ≡ wrong_line_text line k → StreamAnswers now read status text
+
+-- a source gave bytes on which no answer is due yet
+abbrev pub GaveUndecided : Option (List ℕ) → Option (List ℕ) → ℕ → ℕ → Type 0
+GaveUndecided before now room_before room_now = (bytes : List ℕ) × Gave before now room_before room_now bytes × IsUndecided bytes

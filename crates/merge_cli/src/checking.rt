@@ -3,7 +3,7 @@ ghost use Rattle.edge.specs.Faults.{Rose};
 ghost use Rattle.edge.specs.Streams.{Gave};
 ghost use Rattle.merge_cli.specs.declared.commands.Command.TheVariants.{Check};
 ghost use Rattle.merge_cli.specs.Answers.{Answered, CommandAnswers};
-ghost use Rattle.merge_cli.specs.Check.{SaysWrong, accepted_text, wrong_word};
+ghost use Rattle.merge_cli.specs.Check.{GaveUndecided, SaysWrong, accepted_text, wrong_word};
 
 use crate::refusal::line_refusal;
 use crate::reply::{Reply, Stop, says};
@@ -22,6 +22,8 @@ pub fn check_reply<S: Source>(alloc: Global, source: &mut S) -> Result<Reply, St
     ensures err { OnErr result ((bytes : List ℕ) × Gave (S.left source.old) (S.left source.new)
         (S.room source.old) (S.room source.new) bytes) }
     ensures failed { IsErrOf result Stop.Failed → Rose (S.faults source.old) (S.faults source.new) }
+    ensures undecided { IsErrOf result Stop.Failed → GaveUndecided (S.left source.old)
+        (S.left source.new) (S.room source.old) (S.room source.new) }
     ensures faults { S.faults source.old ≤ S.faults source.new }
     ensures quiet { result ≢ Err Stop.Failed → S.faults source.new ≡ S.faults source.old }
 {

@@ -11,7 +11,8 @@ ghost use Rattle.merge_cli.specs.Answers.{AsksText, AsksProblem};
 ghost use Rattle.merge_cli.specs.Answers.{AsksCheck};
 ghost use Rattle.merge_cli.specs.declared.commands.Command.TheVariants.{Bench, Check};
 ghost use Rattle.merge_cli.specs.Bench.{BenchAnswers};
-ghost use Rattle.merge_cli.specs.Check.{CheckAnswers, accepted_text, wrong_line_text};
+ghost use Rattle.merge_cli.specs.Check.{CheckAnswers, GaveUndecided, accepted_text};
+ghost use Rattle.merge_cli.specs.Check.{wrong_line_text};
 ghost use Rattle.merge_cli.specs.Merge.{MergeAnswers, ReportsMerge, ReportsLack, ReportsSpent};
 ghost use Rattle.merge_cli.specs.Merge.{main_vars};
 ghost use Rattle.merge_cli.specs.Commands.{merge_of};
@@ -64,6 +65,9 @@ fn command_reply<S: Source>(alloc: Global, command: Command, source: &mut S) -> 
         (S.room source.old) (S.room source.new) bytes) }
     ensures failed { IsErrOf result Stop.Failed
         → Reads command × Rose (S.faults source.old) (S.faults source.new) }
+    ensures undecided { IsErrOf result Stop.Failed → command ≡ Check
+        → GaveUndecided (S.left source.old) (S.left source.new)
+        (S.room source.old) (S.room source.new) }
     ensures faults { S.faults source.old ≤ S.faults source.new }
     ensures quiet { result ≢ Err Stop.Failed
         → S.faults source.new ≡ S.faults source.old }
@@ -85,6 +89,9 @@ fn reply<S: Source>(alloc: Global, words: &Words, source: &mut S) -> Result<Repl
         (S.room source.old) (S.room source.new) bytes) }
     ensures failed { IsErrOf result Stop.Failed
         → IsReading words.now × Rose (S.faults source.old) (S.faults source.new) }
+    ensures undecided { IsErrOf result Stop.Failed → IsCommand words.now Check
+        → GaveUndecided (S.left source.old) (S.left source.new)
+        (S.room source.old) (S.room source.new) }
     ensures faults { S.faults source.old ≤ S.faults source.new }
     ensures quiet { result ≢ Err Stop.Failed
         → S.faults source.new ≡ S.faults source.old }
@@ -100,7 +107,8 @@ fn reply<S: Source>(alloc: Global, words: &Words, source: &mut S) -> Result<Repl
 /// the answer to the sink. The statuses, in the order in which they are looked for:
 ///
 /// - 2: the words are those of no command; nothing is read.
-/// - 4: a read failed; there is no text and the sink is not called.
+/// - 4: a read failed, of a report before any answer to it was due; there is no text and the sink is
+///   not called.
 /// - 1: the text is refused: it has more than 262,144 bytes, or its first fault is named; or a list
 ///   begins at a place with another number of truth values than the problem has atoms.
 /// - 7: the text that is checked is no accepted report, and its first wrong line is named; nothing
@@ -256,6 +264,9 @@ pub fn run<S: Source, K: Sink>(
 
     ensures read_fault { result.status ≡ 4
         → IsReading words.now × Rose (S.faults source.old) (S.faults source.new) }
+    ensures read_fault_checked { result.status ≡ 4 → IsCommand words.now Check
+        → GaveUndecided (S.left source.old) (S.left source.new)
+        (S.room source.old) (S.room source.new) }
     ensures write_fault { result.status ≡ 5
         → (result.sent < length result.text.items) × Rose (K.faults sink.old) (K.faults sink.new) }
     ensures stopped { (result.status ≡ 4) ⊎ (result.status ≡ 6)

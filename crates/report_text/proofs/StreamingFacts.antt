@@ -84,7 +84,7 @@ module _ (a b c : Option (List ℕ)) (r s t : ℕ) (progress : Progress) (h : St
     text = h.text;
     gave = record { known = Consumes-kept a b c h.text h.gave.known keeps; count = omega (arith, h.gave.count, same) };
     needed = no_more h.text progress h.reads;
-    answer = tt;
+    answer = undecided h.text progress h.reads;
   }
 
 -- where the source tells its bytes

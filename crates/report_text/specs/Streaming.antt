@@ -42,11 +42,11 @@ pub record IsRefusedFrom (text : List ℕ) (left : Option (List ℕ)) (refusal :
   pub first : IsFirstWrong text refusal.line refusal.kind
   pub lasting : ((more : List ℕ) → IsFirstWrong (text ++ more) refusal.line refusal.kind) ⊎ IsAtEnd left
 
--- what is answered to the text that a source gave
+-- what is answered to the text that a source gave; a read fails only while no answer is due
 abbrev pub IsAnswerFrom : List ℕ → Option (List ℕ) → Result Kind AcceptFromStop → Type 0
 IsAnswerFrom text left (Ok kind) = IsAcceptedFrom text left kind
 IsAnswerFrom text left (Err (stops.Refused refusal)) = IsRefusedFrom text left refusal
-IsAnswerFrom text left (Err stops.Failed) = Unit {0}
+IsAnswerFrom text left (Err stops.Failed) = IsUndecided text
 IsAnswerFrom text left (Err stops.NoMemory) = Unit {0}
 
 -- the source gave a text, no more of it than was needed, and this is the answer to it

@@ -7,6 +7,9 @@ use Rattle.merge_cli.proofs.top.run.Goals as goal
 pub returns-in-Ok-send_all-clause-read_fault : goal.returns-in-Ok-send_all-clause-read_fault
 returns-in-Ok-send_all-clause-read_fault g c = λ e. absurd ((no_stop _ _ _ _ _ c.in-Ok.ensures.ok.answers).0 e)
 
+pub returns-in-Ok-send_all-clause-read_fault_checked : goal.returns-in-Ok-send_all-clause-read_fault_checked
+returns-in-Ok-send_all-clause-read_fault_checked g c = λ e. absurd ((no_stop _ _ _ _ _ c.in-Ok.ensures.ok.answers).0 e)
+
 pub returns-in-Ok-send_all-clause-write_fault : goal.returns-in-Ok-send_all-clause-write_fault
 returns-in-Ok-send_all-clause-write_fault g c = λ e. absurd ((no_stop _ _ _ _ _ c.in-Ok.ensures.ok.answers).1 e)
 
