@@ -12,6 +12,11 @@ use Rattle.watch_lists.specs.declared.lists.Watch.{Watch}
 use Rattle.watch_lists.specs.Watches.{mate, lit_of, lit_at}
 use Rattle.watch_lists.specs.Seats.{Seated, slot_at, no_watch, heads_of, next_of, others_of, AreSeats, IsLink, AreSeated, IsSized}
 
+pub transport : (P : List ℕ → List ℕ → ℕ → Type 0) {h h' n n' : List ℕ} {k k' : ℕ} → h ≡ h' →
+    n ≡ n' → k ≡ k' → P h n k → P h' n' k'
+transport P {h} {h'} {n} {n'} {k} {k'} a b e p = subst (P h' n') e
+    (subst (λ (ns : List ℕ). P h' ns k) b (subst (λ (hs : List ℕ). P hs n k) a p))
+
 pub slot_in : (slots : List ℕ) (seat : ℕ) → seat < length slots →
     slot_at slots seat ≡ get_or slots seat 0
 slot_in slots seat h = get_or_default slots seat 4294967295 0 h
@@ -100,7 +105,7 @@ push_next heads row seats slots at seat w h la ls e =
     ap (set (next_of slots seats row) (slot_at slots seat)) (ap (slot_at slots) e ∙
     sym (get_or-map (slot_at slots) heads at 0 0 la))
 
-slot_lt : (slots seats : List ℕ) (seat : ℕ) → AreSeats seats slots → seat < length seats →
+pub slot_lt : (slots seats : List ℕ) (seat : ℕ) → AreSeats seats slots → seat < length seats →
     slot_at slots seat < length seats
 slot_lt slots seats seat h lt =
     let e = slot_in slots seat (omega (arith, lt, h.room)) in
@@ -152,7 +157,7 @@ sized_same a = record {
   watched = refl;
 }
 
-mate_lt : (s n : ℕ) → n % 2 ≡ 0 → s < n → mate s < n
+pub mate_lt : (s n : ℕ) → n % 2 ≡ 0 → s < n → mate s < n
 mate_lt s n e h = omega arith
 
 mate_other : (s t : ℕ) → (t ≡ s → ⊥) → mate t ≡ mate s → ⊥
