@@ -1,6 +1,6 @@
 -- Lemmas on watches at seats.
 use Rattle.std.proofs.Common.{◌≡◌, ◌≢◌, ℕ, ◌+◌, ◌<◌, ◌≤◌, ◌%◌, List, [], ◌∷◌, ◌++◌, length, map, refl, ap, sym, ◌∙◌, subst, arith, get_or, get_or-set_other, get_or-set_same, inl, inr}
-use Rattle.std.proofs.Math.ListN.{set, length-set, get_or-eq_default}
+use Rattle.std.proofs.Math.ListN.{set, length-set, get_or-eq_default, take}
 use Rattle.std.proofs.lemmas.Bool.{cases_eq}
 use Rattle.std.proofs.lemmas.List.{ext_get_or, get_or-map, length-map, get_or_default, set-get_or, map-set}
 use Rattle.std.specs.Prelude.{Contains, Some, None}
@@ -9,8 +9,8 @@ use Rattle.watch_lists.specs.Chains.{Chain, AreChains, list_at, IsApart}
 use Rattle.watch_lists.proofs.Linked.{push_chains, Chain-set}
 use Rattle.watch_lists.proofs.Walks.{mate_mate}
 use Rattle.watch_lists.specs.declared.lists.Watch.{Watch}
-use Rattle.watch_lists.specs.Watches.{mate, lit_of, lit_at}
-use Rattle.watch_lists.specs.Seats.{Seated, slot_at, no_watch, heads_of, next_of, others_of, AreSeats, IsLink, AreSeated, IsSized}
+use Rattle.watch_lists.specs.Watches.{mate, lit_of, lit_at, IsFit}
+use Rattle.watch_lists.specs.Seats.{Seated, slot_at, no_watch, heads_of, next_of, others_of, AreSeats, AreNone, AreSeated, IsSized}
 
 pub transport : (P : List ℕ → List ℕ → ℕ → Type 0) {h h' n n' : List ℕ} {k k' : ℕ} → h ≡ h' →
     n ≡ n' → k ≡ k' → P h n k → P h' n' k'
@@ -204,3 +204,30 @@ changed_others seats slots row seat w t h room even lt n =
     ap (λ (j : ℕ). lit_of (get_or (set (others_of seats row) j w.other) (mate t) 0)) m.1 ∙
     ap lit_of (get_or-set_other (others_of seats row) (mate s) (mate t) w.other 0
     (mate_other s t n))
+
+pub fits : (a b : Seated) (numbers : List ℕ) (looked vars : ℕ) → IsSized a b →
+    IsFit a.heads a.next a.watched numbers looked vars →
+    IsFit b.heads b.next b.watched numbers looked vars
+fits a b numbers looked vars s f = record {
+  all_heads = s.heads ∙ f.all_heads;
+  all_next = s.next ∙ f.all_next;
+  all_watched = s.watched ∙ f.all_watched;
+  looked_part = f.looked_part;
+}
+
+-- lists that are empty by seats are empty
+pub none_heads : (slots heads : List ℕ) → length slots ≤ 4294967295 → AreNone heads →
+    AreNone (heads_of slots heads)
+none_heads slots heads few h i lt =
+    let l : i < length heads = omega (arith, lt, length-map heads (slot_at slots)) in
+    get_or-map (slot_at slots) heads i 0 0 l ∙ ap (slot_at slots) (h i l) ∙
+    slot_out slots 4294967295 few
+
+take_seam : {X : Type 0} (new rest : List X) → take (length new) (new ++ rest) ≡ new
+take_seam [] rest = refl
+take_seam {X = X} (x ∷ new) rest = ap (λ (zs : List X). x ∷ zs) (take_seam new rest)
+
+-- a row after all of it was lent
+pub wrote : {X : Type 0} (n : ℕ) (new rest : List X) → length new ≡ n → new ≡ take n (new ++ rest)
+wrote {X = X} n new rest e = sym (subst (λ (k : ℕ). take k (new ++ rest) ≡ new) e
+    (take_seam new rest))
