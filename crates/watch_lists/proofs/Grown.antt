@@ -145,10 +145,18 @@ grown_is heads row seats slots n w h l few =
           (λ i lt. let b : i < length heads = omega (arith, lt, length-map heads (slot_at slots'))
           in get_or-map (slot_at slots') heads i 0 0 b ∙ link (get_or heads i 0) (h.firsts i b) ∙
           sym (get_or-map (slot_at slots) heads i 0 0 b));
-      next_room = omega (arith, length-map seats' f', length-map seats f,
-          two_room seats n (n + 1));
-      watched_room = omega (arith, length-map seats' g', length-map seats g,
-          two_room seats n (n + 1));
+      next_room = omega (
+        arith,
+        length-map seats' f',
+        length-map seats f,
+        two_room seats n (n + 1),
+      );
+      watched_room = omega (
+        arith,
+        length-map seats' g',
+        length-map seats g,
+        two_room seats n (n + 1),
+      );
       next = λ t lt. let b : t < length seats = omega (arith, lt, length-map seats f) in
           let k = get_or seats t 0 in
           let lk : k < length row = omega (arith, s.seats_within t b, h.room) in

@@ -120,11 +120,17 @@ pub push_seat : (heads : List ℕ) (row : List Watch) (seats slots : List ℕ) (
     (set lists at (slot_at slots seat ∷ list_at lists at))
 push_seat heads row seats slots at seat w lists h la ls e c a =
     let slot = slot_at slots seat in
-    let lh : at < length (heads_of slots heads) = omega (arith, la,
-    length-map heads (slot_at slots)) in
-    let ln : slot < length (next_of slots seats row) = omega (arith,
-    slot_lt slots seats seat h.seats_are ls, next_room seats slots row (next_of slots seats row)
-    refl) in
+    let lh : at < length (heads_of slots heads) = omega (
+      arith,
+      la,
+      length-map heads (slot_at slots),
+    ) in
+    let ln : slot < length (next_of slots seats row) = omega (
+      arith,
+      slot_lt slots seats seat h.seats_are ls,
+      next_room seats slots row (next_of slots seats row)
+          refl,
+    ) in
     subst (λ (hs : List ℕ). AreChains hs (next_of slots seats (set row seat w))
     (set lists at (slot ∷ list_at lists at))) (sym (map-set (slot_at slots) heads at seat))
     (subst (λ (ns : List ℕ). AreChains (set (heads_of slots heads) at slot) ns
@@ -170,9 +176,11 @@ pub mate_seat : (seats slots : List ℕ) (seat : ℕ) → AreSeats seats slots �
     × (slot_at slots (get_or seats (mate (slot_at slots seat)) 0) ≡ mate (slot_at slots seat))
 mate_seat seats slots seat h even lt =
     let m = mate_lt (slot_at slots seat) (length seats) even (slot_lt slots seats seat h lt) in
-    let b = h.seats_within (mate (slot_at slots seat)) m in
-    (b, slot_in slots (get_or seats (mate (slot_at slots seat)) 0) (omega (arith, b, h.room)) ∙
-    h.there (mate (slot_at slots seat)) m)
+    let b = h.seats_within (mate (slot_at slots seat)) m in (
+      b,
+      slot_in slots (get_or seats (mate (slot_at slots seat)) 0) (omega (arith, b, h.room)) ∙
+          h.there (mate (slot_at slots seat)) m,
+    )
 
 -- a watch gets another literal, which stands at the seat of its mate
 pub changed_is : (seats slots : List ℕ) (row : List Watch) (seat : ℕ) (w : Watch) (l : Lit) →
@@ -184,8 +192,11 @@ changed_is seats slots row seat w l h room even lt e =
     let m = mate_seat seats slots seat h even lt in
     let s = slot_at slots seat in
     let lm = mate_lt s (length seats) even (slot_lt slots seats seat h lt) in
-    let lo : mate s < length (others_of seats row) = omega (arith, lm,
-    length-map seats (λ k. (get_or row k no_watch).other)) in
+    let lo : mate s < length (others_of seats row) = omega (
+      arith,
+      lm,
+      length-map seats (λ k. (get_or row k no_watch).other),
+    ) in
     ap (λ (xs : List ℕ). lit_of (get_or xs (mate s) 0))
     (set_row (λ w. w.other) seats slots row (get_or seats (mate s) 0) w h room m.0) ∙
     ap (λ (j : ℕ). lit_of (get_or (set (others_of seats row) j w.other) (mate s) 0)) m.1 ∙

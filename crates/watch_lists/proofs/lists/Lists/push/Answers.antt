@@ -15,9 +15,12 @@ returns-clause-chains c =
     let room = next_room i.seats.items i.slots.items i.row.items c.args.self.now.next
     (ap (λ (v : Seated). v.next) c.self.view_is) in
     let lt : c.args.seat < length i.seats.items = omega (arith, c.requires.seat, room) in
-    let la : c.args.at < length i.heads.items = omega (arith, c.requires.at,
-    ap {B = ℕ} (λ (v : Seated). length v.heads) c.self.view_is,
-    length-map i.heads.items (slot_at i.slots.items)) in
+    let la : c.args.at < length i.heads.items = omega (
+      arith,
+      c.requires.at,
+      ap {B = ℕ} (λ (v : Seated). length v.heads) c.self.view_is,
+      length-map i.heads.items (slot_at i.slots.items),
+    ) in
     let w : Watch = record {
       next = c.index-seat_after.result.now;
       other = c.index_mut.result.now.other;
@@ -37,9 +40,12 @@ returns-clause-loose c =
     let room = next_room i.seats.items i.slots.items i.row.items c.args.self.now.next
     (ap (λ (v : Seated). v.next) c.self.view_is) in
     let lt : c.args.seat < length i.seats.items = omega (arith, c.requires.seat, room) in
-    let la : c.args.at < length i.heads.items = omega (arith, c.requires.at,
-    ap {B = ℕ} (λ (v : Seated). length v.heads) c.self.view_is,
-    length-map i.heads.items (slot_at i.slots.items)) in
+    let la : c.args.at < length i.heads.items = omega (
+      arith,
+      c.requires.at,
+      ap {B = ℕ} (λ (v : Seated). length v.heads) c.self.view_is,
+      length-map i.heads.items (slot_at i.slots.items),
+    ) in
     let w : Watch = record {
       next = c.index-seat_after.result.now;
       other = c.index_mut.result.now.other;
