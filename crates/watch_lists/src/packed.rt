@@ -17,3 +17,14 @@ pub fn pack(lit: Lit) -> u32
         2 * (lit.var - 1) + 1
     }
 }
+
+// The literal that a number stands for.
+#[inline]
+pub fn unpack(bits: u32) -> Lit
+    ensures { result ≡ lit_of bits }
+{
+    Lit {
+        var: bits / 2 + 1,
+        positive: bits % 2 == 0,
+    }
+}
