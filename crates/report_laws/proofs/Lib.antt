@@ -1,0 +1,4 @@
+pub mod Choices
+pub mod Dues
+pub mod LineVerdicts
+pub mod EachReport
