@@ -3,6 +3,8 @@
 #![tactic(auto)]
 
 #[cfg(test)]
+mod propagation;
+#[cfg(test)]
 mod questions;
 #[cfg(test)]
 mod tests;
