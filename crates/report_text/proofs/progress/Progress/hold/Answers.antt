@@ -1,9 +1,26 @@
-use Rattle.std.proofs.Common.{◌≡◌, ◌≢◌, List, ℕ, [], ◌++◌, rules, subst}
-use Rattle.report_text.proofs.AcceptingFacts.{hold_late}
+use Rattle.std.proofs.Common.{◌≡◌, ◌≢◌, List, ℕ, [], ◌++◌, rules, refl, subst, sym, ◌∙◌, length}
+use Rattle.std.proofs.lemmas.List.{nil_from_length}
+use Rattle.report_text.specs.Checker.{IsOver}
+use Rattle.report_text.proofs.AcceptingFacts.{hold_late, hold_more}
+use Rattle.report_text.proofs.progress.Progress.hold.Goals.{else-is_over-via-then-is_over+else-not-is_empty, else-is_over-via-else-is_over}
 use Rattle.report_text.proofs.progress.Progress.hold.Goals as goal
+
+pub returns-then-is_err : goal.returns-then-is_err
+returns-then-is_err c = λ text h none more. tt
 
 pub returns-then-not-is_empty : goal.returns-then-not-is_empty
 returns-then-not-is_empty c = λ text h none.
     let held : c.extend_from_slice.new.self.items ≡ c.args.self.held.items ++ c.args.rest.now = search rules in
     let filled : c.extend_from_slice.new.self.items ≢ [] = search rules in
     rw c.stopped.ensures (hold_late c.args.self c.args.rest.now text h none (c.is_over.ensures.0 c.if-is_over.true) (subst (λ (l : List ℕ). l ≢ []) held filled))
+
+pub returns : goal.returns
+returns c = λ text h none.
+    let held : c.extend_from_slice.new.self.items ≡ c.args.self.held.items ++ c.args.rest.now = search rules in
+    let late : IsOver c.args.self.checker → c.extend_from_slice.new.self.items ≡ [] = λ over.
+    let t = c.is_over.ensures.1 over in
+    elim c.else-is_over.branch [
+      | else-is_over-via-then-is_over+else-not-is_empty w ↦ nil_from_length c.extend_from_slice.new.self.items (search rules)
+      | else-is_over-via-else-is_over w ↦ absurd (cc (t, w.if-is_over.false))
+    ] in
+    hold_more c.args.self c.args.rest.now text h none (record { checker = c.args.self.checker; held = c.extend_from_slice.new.self; number = c.args.self.number }) refl held refl late
