@@ -1,9 +1,16 @@
-use Rattle.std.proofs.Common.{◌≡◌, ◌≢◌, List, ℕ, [], ◌++◌, rules, refl, subst, sym, ◌∙◌, length}
-use Rattle.std.proofs.lemmas.List.{nil_from_length}
+use Rattle.std.proofs.Common.{◌≡◌, ◌≢◌, ◌==◌, true, List, ℕ, [], ◌∷◌, ◌++◌, length, vec_len, rules, refl, sym, subst, ◌∙◌, arith}
+use Rattle.std.proofs.lemmas.Bool.Decides.{nat_tests}
 use Rattle.report_text.specs.Checker.{IsOver}
 use Rattle.report_text.proofs.AcceptingFacts.{hold_late, hold_more}
 use Rattle.report_text.proofs.progress.Progress.hold.Goals.{else-is_over-via-then-is_over+else-not-is_empty, else-is_over-via-else-is_over}
 use Rattle.report_text.proofs.progress.Progress.hold.Goals as goal
+
+zero_is : (n : ℕ) → (n == 0) ≡ true → n ≡ 0
+zero_is n e = grind (arith, nat_tests)
+
+no_bytes : (bytes : List ℕ) → length bytes ≡ 0 → bytes ≡ []
+no_bytes [] e = refl
+no_bytes (b ∷ bs) e = absurd (omega arith)
 
 pub returns-then-is_err : goal.returns-then-is_err
 returns-then-is_err c = λ text h none more. tt
@@ -16,11 +23,14 @@ returns-then-not-is_empty c = λ text h none.
 
 pub returns : goal.returns
 returns c = λ text h none.
-    let held : c.extend_from_slice.new.self.items ≡ c.args.self.held.items ++ c.args.rest.now = search rules in
-    let late : IsOver c.args.self.checker → c.extend_from_slice.new.self.items ≡ [] = λ over.
+    let bytes = c.extend_from_slice.new.self in
+    let held : bytes.items ≡ c.args.self.held.items ++ c.args.rest.now = search rules in
+    let late : IsOver c.args.self.checker → bytes.items ≡ [] = λ over.
     let t = c.is_over.ensures.1 over in
     elim c.else-is_over.branch [
-      | else-is_over-via-then-is_over+else-not-is_empty w ↦ nil_from_length c.extend_from_slice.new.self.items (search rules)
+      | else-is_over-via-then-is_over+else-not-is_empty w ↦
+          let size : vec_len bytes ≡ 0 = zero_is (vec_len bytes) (sym w.is_empty.ensures ∙ w.if-not-is_empty.false) in
+          no_bytes bytes.items (omega (arith, bytes.ok.0, size))
       | else-is_over-via-else-is_over w ↦ absurd (cc (t, w.if-is_over.false))
     ] in
-    hold_more c.args.self c.args.rest.now text h none (record { checker = c.args.self.checker; held = c.extend_from_slice.new.self; number = c.args.self.number }) refl held refl late
+    hold_more c.args.self c.args.rest.now text h none (record { checker = c.args.self.checker; held = bytes; number = c.args.self.number }) refl held refl late
