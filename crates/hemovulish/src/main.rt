@@ -1,6 +1,9 @@
 // The program: makes the words, the source and the sink, runs, and ends with the status.
 #![tactic(auto)]
 
+#[cfg(test)]
+mod devices;
+
 use edge::{NoMemory, StdSink, StdSource, Words};
 use merge_cli::{run, status};
 use std::env::{self, FillError};
