@@ -9,5 +9,5 @@ mod stepping;
 
 pub use laws::listed_law;
 pub use listing::Listing;
-pub use lists::{ClosestList, list_next, text_of};
+pub use lists::{ClosestList, text_of};
 pub use searching::{ListEnd, ListOutcome, list_closest};
