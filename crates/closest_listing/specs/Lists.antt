@@ -1,5 +1,5 @@
 -- Lists of closest valuations, and how a search for one ends.
-use Rattle.std.specs.Prelude.{◌≡◌, ℕ, ◌+◌, Bool, true, false, List, [], ◌∷◌, ◌++◌, Option, IsTrue, codes, if◌then◌else◌}
+use Rattle.std.specs.Prelude.{◌≡◌, ℕ, ◌+◌, Bool, true, false, List, [], ◌∷◌, ◌++◌, Option, codes, if◌then◌else◌}
 use Rattle.std.specs.List.{flat_map}
 use Rattle.derivation_log.specs.Logs.{Log}
 use Rattle.solver_laws.specs.Ready.{IsLog}

@@ -3,7 +3,7 @@ use Rattle.std.proofs.Common.{◌≡◌, ℕ, ◌+◌, ◌-◌, ◌<◌, ◌≤�
 use Rattle.std.specs.Prelude.{slice_get, nat_lt}
 use Rattle.std.specs.List.{swap}
 use Rattle.std.proofs.lemmas.Bool.{cases_eq, cases_lt, lt-ltb, le-ltb}
-use Rattle.std.proofs.lemmas.List.{length-set, get_or-set_same, take_more_set, take-set-le, drop-set-lt, set-set, get_or-drop, drop-drop, take_all, map-append, length-map, length-take-le, drop_more, take_more, get_or_at, set_at}
+use Rattle.std.proofs.lemmas.List.{length-set, get_or-set_same, take_more_set, take-set-le, drop-set-lt, set-set, get_or-drop, drop-drop, map-append, length-map, length-take-le, drop_more, take_more, get_or_at, set_at}
 use Rattle.std.proofs.lemmas.List.Edits.{swap_is, length-swap}
 use Rattle.std.proofs.lemmas.Option.{slice_get-get_or}
 use Rattle.clause_store.specs.declared.lit.Lit.{Lit}

@@ -1,9 +1,8 @@
 -- What the solver's reply to a claim's assumptions says of the claim.
-use Rattle.std.proofs.Common.{◌≡◌, ℕ, zero, suc, ◌<◌, Bool, true, List, [], ◌∷◌, length, map, refl, sym, ap, ◌∙◌, subst, arith, All, Result, Ok, Err}
+use Rattle.std.proofs.Common.{◌≡◌, ℕ, Bool, List, [], ◌∷◌, length, map, refl, sym, ap, ◌∙◌, subst, All, Result, Ok, Err}
 use Rattle.std.specs.Prelude.{MatchResult, slice_index_or}
 use Rattle.std.proofs.lemmas.List.{length-map}
 use Rattle.std.proofs.lemmas.List.Elements.{All-map}
-use Rattle.clause_store.specs.declared.lit.Lit.{Lit}
 use Rattle.clause_store.specs.Lits.{sorted_clause}
 use Rattle.clause_store.specs.Truth.{lit_true, all_true, AreTrue}
 use Rattle.clause_store.proofs.Truths.{stored_true}

@@ -1,6 +1,6 @@
 -- Exact distances.
-use Rattle.std.proofs.Common.{◌≡◌, ℕ, zero, suc, ◌+◌, ◌<◌, ◌≤◌, ◌⊎◌, inl, inr, Bool, List, [], ◌∷◌, ◌++◌, length, take, map, get_or, All, Option, Some, None, refl, ap, sym, ◌∙◌, subst, arith}
-use Rattle.std.specs.Prelude.{slice_get, slice_index_or}
+use Rattle.std.proofs.Common.{◌≡◌, ℕ, zero, suc, ◌+◌, ◌<◌, ◌≤◌, Bool, List, [], ◌∷◌, ◌++◌, length, take, map, get_or, All, Option, Some, None, ap, sym, ◌∙◌, subst, arith}
+use Rattle.std.specs.Prelude.{slice_index_or}
 use Rattle.std.specs.List.{AllZip}
 use Rattle.std.proofs.lemmas.List.{take_more, take_all, map_more, length-take-le, length-map}
 use Rattle.std.proofs.lemmas.List.Elements.{All-cons, All-nil, All-head, All-tail, All-get_or}
@@ -10,7 +10,7 @@ use Rattle.formulas.specs.declared.formula.Formula as formula
 use Rattle.derivation_log.specs.Logs.{Log}
 use Rattle.cdcl_core.specs.Replies.{IsLonger}
 use Rattle.merge_model.specs.declared.answer.Shown.{Shown}
-use Rattle.merge_model.specs.Merging.{IsModel, HasModel, away, vector_of}
+use Rattle.merge_model.specs.Merging.{IsModel, HasModel, away}
 use Rattle.merge_model.specs.Answers.{IsShown}
 use Rattle.merge_model.proofs.Nearest.{away_is as nearest_is}
 use Rattle.merge_encoding.specs.MainDues.{aways_of}
@@ -19,17 +19,17 @@ use Rattle.agent_copies.specs.Copy.{CopyDue}
 use Rattle.distance_search.proofs.Ready.{ready}
 use Rattle.merge_encoding.specs.declared.frame.Frame.{Frame}
 use Rattle.merge_encoding.specs.Frames.{copy_of, frame_of}
-use Rattle.merge_encoding.specs.Claims.{Assertion, NoModelOfBase, NoNearer, base_at, own_at}
+use Rattle.merge_encoding.specs.Claims.{NoModelOfBase, NoNearer, base_at, own_at}
 use Rattle.distance_search.specs.declared.answer.Away.{Away}
 use Rattle.distance_search.specs.declared.reply.Witness.{Witness}
 use Rattle.distance_search.specs.declared.reply.Reply.{Reply}
-use Rattle.distance_search.specs.declared.reply.Reply.TheVariants.{Refuted, Found}
+use Rattle.distance_search.specs.declared.reply.Reply.TheVariants.{Refuted}
 use Rattle.distance_search.specs.Setting.{Setting, IsAskable}
 use Rattle.distance_search.specs.Laws.{Laws}
-use Rattle.distance_search.specs.Replies.{IsTrueIn, Shows, IsAnswer}
-use Rattle.distance_search.specs.Results.{IsProven, AreProven, AreFar, IsAway}
+use Rattle.distance_search.specs.Replies.{IsAnswer}
+use Rattle.distance_search.specs.Results.{IsProven, AreFar, IsAway}
 use Rattle.distance_search.specs.Turns.{IsNearest, AreNearest}
-use Rattle.distance_search.proofs.Places.{all_proven_on, one_proven, none_proven}
+use Rattle.distance_search.proofs.Places.{all_proven_on, one_proven}
 
 -- ---- one agent
 

@@ -6,7 +6,7 @@ use Rattle.cdcl_core.specs.Replies.{IsLonger}
 use Rattle.distance_search.specs.declared.reply.SearchStop.{SearchStop}
 use Rattle.distance_search.specs.declared.reply.SearchStop.TheVariants.{NoMemory as OutOfMemory}
 use Rattle.distance_search.specs.Heard.{IsStopped, IsHalted}
-use Rattle.cdcl_core.proofs.Longer.{longer_none, longer_on}
+use Rattle.cdcl_core.proofs.Longer.{longer_on}
 
 -- the question that stopped was asked after others
 pub halted_on : (a b c : Log) (budget : ℕ) (stop : SearchStop) → IsLonger a b → IsHalted b c budget stop → IsHalted a c budget stop

@@ -1,21 +1,19 @@
 -- Least level values are those of closest valuations.
-use Rattle.std.proofs.Common.{◌≡◌, ◌≢◌, ℕ, zero, suc, ◌+◌, ◌<◌, ◌≤◌, ◌⊎◌, inl, inr, Bool, true, false, List, [], ◌∷◌, ◌++◌, length, map, take, replicate, All, refl, ap, sym, ◌∙◌, subst, arith}
-use Rattle.std.specs.Prelude.{sum}
+use Rattle.std.proofs.Common.{◌≡◌, ◌≢◌, ℕ, zero, suc, ◌+◌, ◌≤◌, Bool, true, false, List, [], ◌∷◌, ◌++◌, length, map, take, replicate, All, refl, ap, sym, ◌∙◌, subst, arith}
 use Rattle.std.specs.List.{AllZip}
 use Rattle.std.specs.Cmp.Lexicographic.{slice_cmp}
 use Rattle.std.specs.Ordering.{is_gt, nat_cmp}
 use Rattle.std.proofs.lemmas.Cmp.{upto, nat_list_cmp_total}
 use Rattle.std.proofs.lemmas.List.{length-map}
-use Rattle.std.proofs.lemmas.List.Elements.{All-cons, All-nil, All-head, All-tail, All-weaker, length_all_zip}
+use Rattle.std.proofs.lemmas.List.Elements.{All-cons, All-nil, All-head, All-weaker, length_all_zip}
 use Rattle.formulas.specs.declared.formula.Formula.{Formula}
 use Rattle.formulas.specs.Formulas.{holds}
 use Rattle.ranks.specs.Limits.{distance_limit}
-use Rattle.ranks.specs.Ranks.{IsNoWorse}
-use Rattle.merge_model.specs.Merging.{IsModel, HasModel, models_of, least_of, away, vector_of, repeated, full_of, IsClosest}
+use Rattle.merge_model.specs.Merging.{IsModel, HasModel, away, vector_of, repeated, full_of, IsClosest}
 use Rattle.merge_model.proofs.Nearest.{away_least, nearest_copies, have_models}
 use Rattle.merge_model.proofs.Fulls.{repeated_small}
 use Rattle.aggregators.specs.Levels.{FitLevels}
-use Rattle.merge_encoding.specs.Claims.{NoBetter, NoBreaker, NoModelWith, IsCandidate, IsBetterAt, AreUpTo, ask_at}
+use Rattle.merge_encoding.specs.Claims.{NoBreaker, NoModelWith, IsCandidate, AreUpTo, ask_at}
 use Rattle.distance_search.specs.Setting.{Setting}
 use Rattle.distance_search.specs.Laws.{Laws}
 use Rattle.distance_search.specs.Replies.{IsTrueIn}

@@ -1,5 +1,5 @@
 -- Making the levels least.
-use Rattle.std.proofs.Common.{◌≡◌, ℕ, zero, suc, ◌+◌, ◌<◌, ◌≤◌, ◌⊎◌, inl, inr, Bool, List, [], ◌∷◌, ◌++◌, length, take, map, min, add-one, Option, Some, None, refl, ap, sym, ◌∙◌, subst, arith}
+use Rattle.std.proofs.Common.{◌≡◌, ℕ, zero, suc, ◌+◌, ◌<◌, inl, inr, Bool, List, [], ◌∷◌, ◌++◌, length, take, map, min, Option, Some, None, refl, ap, sym, ◌∙◌, subst, arith}
 use Rattle.std.specs.Prelude.{slice_get, slice_index}
 use Rattle.std.proofs.lemmas.List.{take_more, length-take-le}
 use Rattle.derivation_log.specs.Logs.{Log}
@@ -15,15 +15,14 @@ use Rattle.distance_search.specs.declared.reply.Reply.TheVariants.{Refuted, Foun
 use Rattle.distance_search.specs.Setting.{Setting, IsAskable}
 use Rattle.distance_search.specs.Laws.{Laws}
 use Rattle.distance_search.specs.Heard.{IsRefuting}
-use Rattle.distance_search.specs.Replies.{IsTrueIn, IsWitness, IsAnswer}
+use Rattle.distance_search.specs.Replies.{IsTrueIn, IsAnswer}
 use Rattle.distance_search.specs.LevelValues.{values_in}
 use Rattle.distance_search.specs.Results.{IsConsistent, IsProven, AreProven}
 use Rattle.distance_search.specs.Turns.{IsReached, IsLeastBelow, IsLowered, IsLeastTo, AreLowered}
 use Rattle.distance_search.proofs.Ready.{ready}
-use Rattle.cdcl_core.proofs.Longer.{longer_on}
 use Rattle.distance_search.proofs.Orders.{kept_before, better_before}
 use Rattle.distance_search.proofs.Least.{truth_is_candidate, values_fit}
-use Rattle.distance_search.proofs.Places.{take_less, less_or, get_front, one_proven, proven_on, none_proven}
+use Rattle.distance_search.proofs.Places.{take_less, less_or, get_front, one_proven, proven_on}
 
 -- ---- the first question
 

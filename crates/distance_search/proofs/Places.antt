@@ -1,5 +1,5 @@
 -- Lists by place.
-use Rattle.std.proofs.Common.{◌≡◌, ℕ, zero, suc, ◌+◌, ◌<◌, ◌≤◌, ◌⊎◌, inl, inr, List, [], ◌∷◌, ◌++◌, length, take, Option, None, Some, refl, ap, sym, ◌∙◌, subst, arith, length-append}
+use Rattle.std.proofs.Common.{◌≡◌, ℕ, zero, suc, ◌+◌, ◌<◌, ◌≤◌, ◌⊎◌, inl, inr, List, [], ◌∷◌, ◌++◌, length, take, Option, None, Some, refl, ap, sym, subst, arith, length-append}
 use Rattle.std.specs.Prelude.{slice_get}
 use Rattle.std.proofs.lemmas.Option.{slice_get_within}
 use Rattle.derivation_log.specs.Logs.{Log}
@@ -43,12 +43,6 @@ proven_on s a b k claim (Some n) g h = (h.0, shows_on s a b n claim g h.1)
 
 pub all_proven_on : (s : Setting) (a b : Log) (claim : ℕ → ℕ → Assertion) (ks : List ℕ) (fs : List (Option ℕ)) → IsLonger a b → AreProven s a claim ks fs → AreProven s b claim ks fs
 all_proven_on s a b claim ks fs g h = record { count = h.count; each = λ i k f ek ef. proven_on s a b k (claim i k) f g (h.each i k f ek ef) }
-
-none_there : {X : Type 0} (xs : List X) (i : ℕ) (x : X) → xs ≡ [] → slice_get xs i ≡ Some x → ⊥
-none_there xs i x e h = let g = subst (λ ys. slice_get ys i ≡ Some x) e h in cc
-
-pub none_proven : (s : Setting) (log : Log) (claim : ℕ → ℕ → Assertion) (ks : List ℕ) (fs : List (Option ℕ)) → ks ≡ [] → fs ≡ [] → AreProven s log claim ks fs
-none_proven s log claim ks fs ek ef = record { count = ap length ef ∙ sym (ap length ek); each = λ i k f e g. absurd (none_there ks i k ek e) }
 
 -- one number more, with its step
 pub one_proven : (s : Setting) (log : Log) (claim : ℕ → ℕ → Assertion) (ks : List ℕ) (fs : List (Option ℕ)) (k : ℕ) (f : Option ℕ) → AreProven s log claim ks fs → IsProven s log k (claim (length ks) k) f → AreProven s log claim (ks ++ k ∷ []) (fs ++ f ∷ [])

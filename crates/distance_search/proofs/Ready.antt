@@ -1,5 +1,5 @@
 -- Claims that may be asked.
-use Rattle.std.proofs.Common.{◌≡◌, ℕ, length, ap, ◌∙◌}
+use Rattle.std.proofs.Common.{length, ap, ◌∙◌}
 use Rattle.clause_store.proofs.Fresh.{length-fresh_lits}
 use Rattle.merge_encoding.specs.Claims.{Assertion}
 use Rattle.merge_encoding.proofs.Same.{IsProperOf, proper_in}

@@ -1,5 +1,5 @@
 -- What the solver's replies say of a list of assumptions.
-use Rattle.std.proofs.Common.{◌≡◌, ℕ, zero, suc, ◌+◌, ◌<◌, ◌≤◌, ◌^◌, Bool, true, List, [], ◌∷◌, ◌++◌, length, map, refl, sym, ap, ◌∙◌, subst, arith, append_assoc, length-append, Option, Some, None}
+use Rattle.std.proofs.Common.{◌≡◌, ℕ, ◌+◌, ◌<◌, ◌≤◌, ◌^◌, Bool, List, [], ◌∷◌, ◌++◌, length, sym, ap, ◌∙◌, subst, arith, append_assoc, length-append}
 use Rattle.std.specs.Prelude.{slice_get}
 use Rattle.clause_store.specs.declared.lit.Lit.{Lit}
 use Rattle.clause_store.specs.Truth.{AreTrue, values_of}
@@ -7,7 +7,7 @@ use Rattle.clause_store.proofs.Numbered.{get_seam}
 use Rattle.derivation_log.proofs.Steps.{clauses_append}
 use Rattle.derivation_log.specs.Logs.{Log, known_of, clauses_of}
 use Rattle.clause_store.specs.Refutes.{Refutes}
-use Rattle.cdcl_core.specs.Replies.{IsAnswered, IsJust, IsSolution, IsClaimed, IsGrown, IsDecided}
+use Rattle.cdcl_core.specs.Replies.{IsAnswered, IsJust, IsDecided}
 use Rattle.cdcl_core.specs.declared.reply.Reply.{Reply as Told}
 use Rattle.cdcl_core.specs.declared.reply.Reply.TheVariants as told
 use Rattle.merge_encoding.specs.declared.frame.Frame.{Frame}

@@ -1,6 +1,6 @@
 -- What the answers of a search amount to.
-use Rattle.std.proofs.Common.{◌≡◌, ℕ, zero, suc, ◌+◌, ◌<◌, ◌≤◌, ◌⊎◌, inl, inr, Bool, true, false, List, [], ◌∷◌, ◌++◌, length, take, map, Option, Some, None, refl, ap, sym, ◌∙◌, subst, arith, length-append, get_or}
-use Rattle.std.specs.Prelude.{slice_get, slice_index_or}
+use Rattle.std.proofs.Common.{◌≡◌, ℕ, ◌+◌, ◌<◌, ◌≤◌, ◌⊎◌, inl, inr, Bool, false, List, [], ◌∷◌, ◌++◌, length, Option, Some, None, ap, sym, ◌∙◌, subst, arith, length-append, get_or}
+use Rattle.std.specs.Prelude.{slice_get}
 use Rattle.std.specs.List.{AllZip}
 use Rattle.std.proofs.lemmas.List.{take_all}
 use Rattle.std.proofs.lemmas.Option.{slice_get-get_or}
@@ -12,7 +12,6 @@ use Rattle.derivation_log.specs.Logs.{Log}
 use Rattle.cdcl_core.specs.Replies.{IsLonger}
 use Rattle.aggregators.specs.Levels.{FitLevels}
 use Rattle.merge_model.specs.Merging.{IsModel, HasModel, IsClosest, repeated}
-use Rattle.merge_model.specs.Answers.{IsShown}
 use Rattle.merge_encoding.specs.Claims.{Assertion, NoModelOfConstraint, NoModelOfBase, NoBetter, NoBreaker, NoModelWith, AreUpTo, base_at, ask_at}
 use Rattle.distance_search.specs.declared.answer.Away.{Away}
 use Rattle.distance_search.specs.declared.answer.Best.{Best}
@@ -25,9 +24,9 @@ use Rattle.distance_search.specs.declared.reply.Reply.{Reply}
 use Rattle.distance_search.specs.declared.reply.Reply.TheVariants.{Refuted, Found}
 use Rattle.distance_search.specs.Setting.{Setting, IsAskable}
 use Rattle.distance_search.specs.Laws.{Laws}
-use Rattle.distance_search.specs.Replies.{Shows, IsAnswer}
-use Rattle.distance_search.specs.LevelValues.{true_values, values_in, IsLeast}
-use Rattle.distance_search.specs.Results.{IsConsistent, AreProven, AreLeast, IsAway, IsBestFor, IsBest, IsJudged, IsNamedBy, AreNamed, IsModelNamed, AllNamed, IsConsistency, IsWith}
+use Rattle.distance_search.specs.Replies.{IsAnswer}
+use Rattle.distance_search.specs.LevelValues.{true_values, IsLeast}
+use Rattle.distance_search.specs.Results.{AreProven, AreLeast, IsAway, IsBestFor, IsBest, IsJudged, IsNamedBy, AreNamed, IsModelNamed, IsConsistency, IsWith}
 use Rattle.distance_search.specs.Turns.{AreLowered}
 use Rattle.distance_search.proofs.Ready.{ready}
 use Rattle.distance_search.proofs.Logs.{shows_on}

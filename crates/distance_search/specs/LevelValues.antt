@@ -1,7 +1,7 @@
 -- Least level values, and the level values of distances.
 use Rattle.std.specs.Prelude.{◌≡◌, ℕ, ◌<◌, Bool, List, length}
-use Rattle.merge_model.specs.Merging.{full_of, IsClosest}
-use Rattle.merge_encoding.specs.Claims.{NoBetter, values_at, IsCandidate}
+use Rattle.merge_model.specs.Merging.{full_of}
+use Rattle.merge_encoding.specs.Claims.{NoBetter, values_at}
 use Rattle.distance_search.specs.Setting.{Setting}
 use Rattle.distance_search.specs.Replies.{IsTrueIn}
 

@@ -1,5 +1,5 @@
 -- What an answer to a claim tells.
-use Rattle.std.specs.Prelude.{◌≡◌, ℕ, Bool, List, length, All}
+use Rattle.std.specs.Prelude.{◌≡◌, ℕ, length, All}
 use Rattle.aggregators.specs.Levels.{FitLevels}
 use Rattle.derivation_log.specs.Logs.{Log}
 use Rattle.merge_encoding.specs.Assumptions.{assumed}

@@ -1,5 +1,5 @@
 -- What the turns of a search keep.
-use Rattle.std.specs.Prelude.{◌≡◌, ℕ, ◌<◌, Bool, List, length, take, Option, slice_index}
+use Rattle.std.specs.Prelude.{◌≡◌, ℕ, ◌<◌, Bool, List, take, Option, slice_index}
 use Rattle.std.specs.List.{AllZip}
 use Rattle.derivation_log.specs.Logs.{Log}
 use Rattle.merge_model.specs.Merging.{IsModel, away, vector_of}

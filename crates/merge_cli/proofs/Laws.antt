@@ -20,7 +20,7 @@ use Rattle.merge_cli.specs.Commands.{IsMerge, unstated, stated, merge_words, IsL
 use Rattle.merge_cli.specs.Bench.{BenchAnswers, benched}
 use Rattle.merge_cli.specs.Bench as bench
 use Rattle.merge_cli.specs.Check.{CheckAnswers, accepted, wrong, StreamAnswers, at_end, early}
-use Rattle.merge_cli.specs.List.{bad_after_text, bad_after, listed, lacking, spent}
+use Rattle.merge_cli.specs.List.{bad_after, listed, lacking, spent}
 use Rattle.merge_cli.specs.Merge.{merged, inconsistent, gave_up}
 use Rattle.merge_cli.specs.Refusals.{refusal_text, too_long_text}
 use Rattle.merge_cli.specs.Places.{IsPlace}

@@ -3,10 +3,9 @@ use Rattle.std.proofs.Common.{◌≡◌, ℕ, List, length, drop, refl, sym, ap,
 use Rattle.std.specs.Prelude.{Option, Some, None, IfNone, slice_get, codes}
 use Rattle.merge_model.specs.declared.operator.AggregatorName.{AggregatorName}
 use Rattle.merge_model.specs.declared.operator.DistanceName.{DistanceName}
-use Rattle.merge_cli.specs.declared.commands.Command.{Command}
 use Rattle.merge_cli.specs.declared.commands.Command.TheVariants as variants
 use Rattle.merge_cli.specs.declared.place.Place.{Place}
-use Rattle.merge_cli.specs.Commands.{IsCommand, IsNoCommand, unstated, stated, IsList}
+use Rattle.merge_cli.specs.Commands.{IsNoCommand, unstated, stated, IsList}
 use Rattle.merge_cli.specs.Places.{IsPlace}
 
 -- one word stands at a place

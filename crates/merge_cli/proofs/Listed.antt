@@ -29,7 +29,7 @@ use Rattle.merge_cli.specs.declared.place.Place.{Place}
 use Rattle.merge_cli.specs.declared.place.Place.TheVariants.{Start, Above, TooLong}
 use Rattle.merge_cli.specs.declared.reply.Reply.{Reply}
 use Rattle.merge_cli.specs.Commands.{usual_conflicts}
-use Rattle.merge_cli.specs.List.{Listing, ListAnswers, Lists, bad_after, listed, lacking, spent, reported_by, bad_after_text}
+use Rattle.merge_cli.specs.List.{Listing, ListAnswers, bad_after, listed, lacking, spent, reported_by, bad_after_text}
 use Rattle.merge_cli.specs.Merge.{MergeAnswers, merged, inconsistent, gave_up, status_of}
 use Rattle.merge_cli.specs.Places.{IsPlaceOf, above}
 use Rattle.merge_cli.proofs.Problems.{named_has}

@@ -1,14 +1,11 @@
 -- A bench has one text where it is merged.
-use Rattle.std.proofs.Common.{◌≡◌, ℕ, ◌+◌, Bool, true, false, List, [], ◌∷◌, ◌++◌, decimal, refl, sym, ap, ◌∙◌, subst, Ordering, Less, Equal, Greater}
+use Rattle.std.proofs.Common.{◌≡◌, ℕ, ◌+◌, Bool, false, List, [], ◌∷◌, ◌++◌, decimal, refl, sym, ap, ◌∙◌, subst, Ordering, Less, Equal, Greater}
 use Rattle.std.specs.Prelude.{codes}
-use Rattle.std.specs.Ordering.{nat_cmp, is_gt, ordering_reverse}
-use Rattle.std.specs.Cmp.Lexicographic.{slice_cmp}
+use Rattle.std.specs.Ordering.{is_gt, ordering_reverse}
 use Rattle.std.specs.List.{AllZip}
 use Rattle.std.proofs.lemmas.Cmp.{nat_list_cmp_total}
 use Rattle.std.proofs.lemmas.Map.Lookups.{exact_bytes}
 use Rattle.formulas.specs.declared.formula.Formula.{Formula}
-use Rattle.formulas.specs.Formulas.{holds}
-use Rattle.ranks.specs.Ranks.{IsNoWorse}
 use Rattle.merge_model.specs.declared.answer.Shown.{Shown}
 use Rattle.merge_model.specs.declared.answer.Verdict.{Verdict}
 use Rattle.merge_model.specs.declared.answer.Verdict.TheVariants.{Yes, No}

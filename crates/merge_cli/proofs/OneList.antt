@@ -1,5 +1,5 @@
 -- A problem has one list.
-use Rattle.std.proofs.Common.{◌≡◌, ℕ, ◌+◌, Bool, true, false, List, [], ◌∷◌, ◌++◌, length, take, Option, refl, sym, ap, ◌∙◌, subst, arith, inl, inr, length-append}
+use Rattle.std.proofs.Common.{◌≡◌, ℕ, ◌+◌, Bool, true, false, List, [], ◌∷◌, ◌++◌, length, take, Option, refl, sym, ap, ◌∙◌, arith, inl, inr, length-append}
 use Rattle.merge_model.specs.Merging.{Profile, Keeps, IsListed}
 use Rattle.merge_model.specs.declared.problem.Problem.{Problem}
 use Rattle.closest_listing.specs.Lists.{AreFirst, list_text}

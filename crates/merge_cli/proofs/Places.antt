@@ -1,9 +1,9 @@
 -- The words of places.
-use Rattle.std.proofs.Common.{◌≡◌, ◌≢◌, ℕ, ◌+◌, ◌<◌, ◌≤◌, suc, Bool, true, false, List, [], ◌∷◌, ◌++◌, map, length, get_or, take, drop, set, refl, sym, ap, ◌∙◌, subst, arith, inl, inr, All, Option, None, Some}
-use Rattle.std.specs.Prelude.{◌⊎◌, slice_get}
-use Rattle.std.proofs.lemmas.List.{take_more_set, length-map, append-nil, take_all, map-append}
+use Rattle.std.proofs.Common.{◌≡◌, ℕ, ◌+◌, ◌<◌, ◌≤◌, suc, Bool, true, false, List, [], ◌∷◌, ◌++◌, map, length, get_or, take, drop, set, refl, sym, ap, ◌∙◌, subst, arith, inl, inr, All, Some}
+use Rattle.std.specs.Prelude.{slice_get}
+use Rattle.std.proofs.lemmas.List.{take_more_set, length-map, take_all, map-append}
 use Rattle.std.proofs.lemmas.List.Elements.{All-nil, All-cons, All-head, All-tail}
-use Rattle.std.proofs.Math.Seq.{drop-cons, take-suc}
+use Rattle.std.proofs.Math.Seq.{take-suc}
 use Rattle.formulas.specs.Limits.{valuation_limit}
 use Rattle.formula_text.specs.ValuationWords.{truth_digit, valuation_word}
 use Rattle.merge_cli.specs.declared.place.Place.{Place}

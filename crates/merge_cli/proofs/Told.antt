@@ -30,7 +30,8 @@ use Rattle.merge_cli.specs.Refusals.{refusal_text, too_long_text}
 use Rattle.merge_cli.specs.Rows.{ReadAnswers, too_long, of_text, refused, of_problem}
 use Rattle.merge_cli.specs.Answers.{ProblemAnswers, TextAnswers, CommandAnswers, Answers, Answered, IsTooMuch, AsksText, AsksProblem, AsksCheck}
 use Rattle.merge_cli.proofs.Laws.{reading_row, lacks, lacks_none, not_refused, refused_comes, refused_only, too_long_comes, too_long_only, names_a_line, row_of}
-use Rattle.merge_cli.proofs.OneKind.{one_kind, same_kind}
+use Rattle.report_laws.proofs.EachReport.{one_kind}
+use Rattle.merge_cli.proofs.OneKind.{same_kind}
 use Rattle.merge_cli.proofs.Reported.{row_accepted, list_accepted, is_reported}
 use Rattle.merge_cli.proofs.SameProblems.{equal_problems, equal_refusals}
 

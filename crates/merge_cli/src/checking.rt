@@ -13,8 +13,8 @@ use report_lines::{Kind, RefusedKind};
 use report_text::{AcceptFromStop, Refused, accept_from};
 use std::alloc::Global;
 
-/// Judges the report in the source line by line, up to its end or its first wrong line. After a stop
-/// the source has lost the bytes that were read.
+/// Judges the report in the source line by line, up to its end or its first wrong line. After a
+/// stop the source has lost the bytes that were read.
 pub fn check_reply<S: Source>(alloc: Global, source: &mut S) -> Result<Reply, Stop>
     ensures ok { IfOk result (λ reply. Answered (CommandAnswers Check)
         (S.left source.old) (S.left source.new) (S.room source.old) (S.room source.new)

@@ -107,8 +107,8 @@ fn reply<S: Source>(alloc: Global, words: &Words, source: &mut S) -> Result<Repl
 /// the answer to the sink. The statuses, in the order in which they are looked for:
 ///
 /// - 2: the words are those of no command; nothing is read.
-/// - 4: a read failed, of a report before any answer to it was due; there is no text and the sink is
-///   not called.
+/// - 4: a read failed, of a report before any answer to it was due; there is no text and the sink
+///   is not called.
 /// - 1: the text is refused: it has more than 262,144 bytes, or its first fault is named; or a list
 ///   begins at a place with another number of truth values than the problem has atoms.
 /// - 7: the text that is checked is no accepted report, and its first wrong line is named; nothing

@@ -1,12 +1,11 @@
 -- Verdicts with their proofs, one query after another.
-use Rattle.std.proofs.Common.{◌≡◌, ℕ, suc, ◌+◌, ◌<◌, ◌≤◌, List, [], ◌∷◌, ◌++◌, length, take, sym, ap, ◌∙◌, subst, arith, append_assoc, length-append}
+use Rattle.std.proofs.Common.{◌≡◌, ℕ, suc, ◌+◌, ◌<◌, List, [], ◌∷◌, ◌++◌, length, take, sym, ap, ◌∙◌, subst, arith, append_assoc, length-append}
 use Rattle.std.specs.List.{AllZip}
-use Rattle.std.proofs.lemmas.List.{take_all, take_more, append-nil}
+use Rattle.std.proofs.lemmas.List.{take_more, append-nil}
 use Rattle.std.proofs.lemmas.Slice.Zip.{all_zipped_more}
 use Rattle.formulas.specs.declared.formula.Formula as formula
 use Rattle.derivation_log.specs.Logs.{Log}
 use Rattle.cdcl_core.specs.Replies.{IsLonger}
-use Rattle.merge_model.specs.declared.answer.Answer.TheVariants.{Merged}
 use Rattle.merge_model.specs.declared.answer.Verdict.{Verdict}
 use Rattle.merge_model.specs.declared.answer.Verdict.TheVariants as verdict
 use Rattle.merge_model.specs.Answers.{IsVerdict}
@@ -20,7 +19,7 @@ use Rattle.distance_search.specs.Results.{IsJudged, IsBest}
 use Rattle.report_lines.specs.declared.report.Proof.{Proof}
 use Rattle.report_lines.specs.ClaimsDue.{DueClaim, far_claims, least_claims, verdict_claims}
 use Rattle.merge_reports.specs.Proofs.{far_proofs, least_proofs}
-use Rattle.merge_reports.specs.Found.{IsShownBy, AreShownBy, claims_on, IsRuled, values_by, IsFound}
+use Rattle.merge_reports.specs.Found.{IsShownBy, AreShownBy, claims_on, IsRuled}
 use Rattle.merge_reports.proofs.Shown.{zip_join, shown_on, far_shown, least_shown}
 
 pub no_ruled : (s : Setting) (log : Log) (values : List ℕ) (q : ℕ) (found : Away) (old new : List Proof) (judged : Entails) → judged ≡ No found → IsJudged s log q values judged → new ≡ old ++ far_proofs (q + 1) 0 found.far → IsRuled s log values q old new (verdict.No found.shown)

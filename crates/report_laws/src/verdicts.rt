@@ -5,8 +5,8 @@ ghost use Rattle.report_lines.specs.declared.kinds.RefusedKind.{RefusedKind};
 ghost use Rattle.report_lines.specs.Judged.{IsAccepted, IsFirstWrong};
 ghost use Rattle.report_laws.specs.HasVerdict.{HasVerdict};
 
-/// Each text is accepted as a report of exactly one kind, or has exactly one first wrong line, which
-/// is wrong in one way, and never both.
+/// Each text is accepted as a report of exactly one kind, or has exactly one first wrong line,
+/// which is wrong in one way, and never both.
 pub fn each_report_has_one_verdict(_bytes: &[u8])
     ensures has_verdict { HasVerdict _bytes.now }
     ensures one_kind { (k j : Kind) → IsAccepted _bytes.now k → IsAccepted _bytes.now j → k ≡ j }

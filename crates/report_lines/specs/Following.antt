@@ -9,7 +9,6 @@ use Rattle.report_lines.specs.declared.kinds.Due.{Due}
 use Rattle.report_lines.specs.declared.kinds.Due.TheVariants as due
 use Rattle.report_lines.specs.declared.kinds.Kind.TheVariants as kind
 use Rattle.report_lines.specs.declared.kinds.Subject.{Subject}
-use Rattle.report_lines.specs.declared.kinds.Subject.TheVariants.{TheConstraint, BaseOf}
 use Rattle.report_lines.specs.Items.{Item, HeadLine, DistanceLine, AggregatorLine, ConflictsLine, ProblemLine, ModelLine, VectorLine, NearestLine, MeasureLine, VerdictLine, NoModelLine, HasModelLine, GaveUpLine, MainLine, LogLine, ShownLine, EndLine}
 use Rattle.report_lines.specs.ClaimsDue.{DueClaim, of_first, far_claims, least_claims, lack_of}
 use Rattle.report_lines.specs.Places.{Position, agents_at, asks_at, values_at}

@@ -22,7 +22,7 @@ use Rattle.report_lines.specs.declared.kinds.Subject.TheVariants.{TheConstraint,
 use Rattle.report_lines.specs.ClaimsDue.{DueClaim, claims_due}
 use Rattle.report_lines.specs.Items.{Item, HeadLine, DistanceLine, AggregatorLine, ConflictsLine, ProblemLine, ModelLine, VectorLine, NearestLine, MeasureLine, VerdictLine, NoModelLine, HasModelLine, GaveUpLine, MainLine, LogLine, ShownLine, EndLine, item_line}
 use Rattle.report_lines.specs.Places.{end_number, conflict_limit}
-use Rattle.report_lines.specs.Accepted.{Operator, Parts, main_of, log_of, values_in}
+use Rattle.report_lines.specs.Accepted.{Operator, Parts, log_of, values_in}
 use Rattle.report_lines.specs.Operators.{operator_named}
 
 -- what was asked beside the problem

@@ -49,10 +49,6 @@ open_feed text rest piece q number s = record {
   count = s.count;
 }
 
--- the whole text comes at once
-pub open_all : (text : List ℕ) → Open text text start 1
-open_all text = open_feed [] [] text start 1 open_start
-
 first_piece : (rest line next more : List ℕ) → rest ≡ line ++ 10 ∷ next → HasNoFeed line → pieces_of (rest ++ more) ≡ line ∷ pieces_of (next ++ more)
 first_piece rest line next more e none =
     let f : rest ++ more ≡ line ++ 10 ∷ (next ++ more) = ap (λ (x : List ℕ). x ++ more) e ∙ append_assoc line (10 ∷ next) more in

@@ -12,8 +12,7 @@ pub mod front;
 /// The log of a report, its proofs and its end.
 pub mod logging;
 mod parts;
-/// How far a report has been judged that comes in pieces.
-pub mod progress;
+mod progress;
 /// Why a line does not lead on.
 pub mod stop;
 mod streaming;

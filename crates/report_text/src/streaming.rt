@@ -60,9 +60,9 @@ fn judge_from<S: Source>(alloc: Global, source: &mut S) -> Result<Kind, AcceptFr
     }
 }
 
-/// Judges a report that a source gives, in pieces of at most 4,096 bytes: what it is accepted as, or
-/// its first wrong line. Each whole line is judged before more is read, so after a refusal bytes may
-/// be left; the source has lost the bytes that were read.
+/// Judges a report that a source gives, in pieces of at most 4,096 bytes: what it is accepted as,
+/// or its first wrong line. Each whole line is judged before more is read, so after a refusal bytes
+/// may be left; the source has lost the bytes that were read.
 pub fn accept_from<S: Source>(alloc: Global, source: &mut S) -> Result<Kind, AcceptFromStop>
     ensures judged { IsJudgedFrom (S.left source.old) (S.left source.new)
         (S.room source.old) (S.room source.new) result }

@@ -1,11 +1,11 @@
 -- Lemmas on rows that got two more watches.
-use Rattle.std.proofs.Common.{◌≡◌, ℕ, ◌+◌, ◌<◌, ◌≤◌, ◌%◌, List, [], ◌∷◌, ◌++◌, length, map, refl, ap, sym, ◌∙◌, subst, arith, get_or, zero, suc, inl, inr}
+use Rattle.std.proofs.Common.{◌≡◌, ℕ, ◌+◌, ◌<◌, List, [], ◌∷◌, ◌++◌, length, refl, ap, sym, ◌∙◌, subst, arith, get_or, zero, suc, inl, inr}
 use Rattle.std.proofs.lemmas.Bool.{cases_eq, cases_lt}
 use Rattle.std.proofs.lemmas.List.{ext_get_or, get_or-map, length-map, length-append}
 use Rattle.std.specs.Prelude.{◌⊎◌}
 use Rattle.watch_lists.specs.declared.lists.Watch.{Watch}
-use Rattle.watch_lists.specs.Seats.{Seated, slot_at, no_watch, heads_of, next_of, others_of, AreSeats, IsLink, AreSeated, IsGrown}
-use Rattle.watch_lists.proofs.Seats.{slot_in, slot_out}
+use Rattle.watch_lists.specs.Seats.{slot_at, no_watch, heads_of, next_of, others_of, IsLink, AreSeated, IsGrown}
+use Rattle.watch_lists.proofs.Seats.{slot_out}
 
 abbrev pub two : {X : Type 0} → List X → X → X → List X
 two xs a b = (xs ++ a ∷ []) ++ b ∷ []

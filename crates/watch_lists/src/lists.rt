@@ -1,6 +1,6 @@
 // Lists of watches, one for each literal. A watch goes by its slot, two a clause side by side; what
 // a visit reads of it stands at its seat, and the watches of one list can have seats side by side.
-ghost use Rattle.std.specs.Prelude.{◌≡◌, ℕ, ◌*◌, ◌+◌, ◌<◌, ◌≤◌, Bool, List, ◌∷◌, length, true};
+ghost use Rattle.std.specs.Prelude.{◌≡◌, ℕ, ◌*◌, ◌+◌, ◌<◌, ◌≤◌, List, ◌∷◌, length, true};
 ghost use Rattle.std.specs.Prelude.{false, slice_index_or, slice_set, Contains, All};
 ghost use Rattle.std.specs.Prelude.{IfOk, OnOk, OnErr};
 ghost use Rattle.clause_store.specs.Limits.{var_limit};

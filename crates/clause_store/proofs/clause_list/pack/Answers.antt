@@ -1,5 +1,4 @@
 use Rattle.std.proofs.Common.{◌+◌, ◌-◌, ◌≡◌, ℕ, List, ◌∙◌, ap, sym, refl, length, arith}
-use Rattle.std.specs.List.{copy_within}
 use Rattle.std.proofs.lemmas.Bool.Decides.{nat_tests}
 use Rattle.clause_store.specs.Clauses.{cut, start_at}
 use Rattle.clause_store.proofs.Cuts.{length-cut}

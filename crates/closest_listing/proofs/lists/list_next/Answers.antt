@@ -1,4 +1,4 @@
-use Rattle.std.proofs.Common.{rules, arith, ◌≡◌, ◌+◌, ℕ, Bool, List, [], ◌∷◌, ◌++◌, length, Some, sym, subst, ap, ◌∙◌, length-append}
+use Rattle.std.proofs.Common.{rules, arith, ◌≡◌, ◌+◌, ℕ, Bool, List, [], ◌∷◌, length, Some, sym, ap, ◌∙◌, length-append}
 use Rattle.cdcl_core.proofs.Longer.{longer_on}
 use Rattle.distance_search.specs.declared.reply.SearchStop.{SearchStop}
 use Rattle.distance_search.specs.declared.reply.SearchStop.TheVariants.{NoMemory as OutOfMemory}

@@ -1,6 +1,6 @@
 use Rattle.distance_search.proofs.Logs.{over_on}
 use Rattle.cdcl_core.proofs.Longer.{longer_on}
-use Rattle.distance_search.proofs.Halts.{halted_result, halted_none}
+use Rattle.distance_search.proofs.Halts.{halted_result}
 use Rattle.distance_search.specs.Turns.{IsReached}
 use Rattle.distance_search.proofs.level.first.Goals as goal
 

@@ -1,4 +1,4 @@
-use Rattle.std.proofs.Common.{◌≡◌, List, ℕ, ap, ◌∙◌, arith}
+use Rattle.std.proofs.Common.{List, ℕ, ap, ◌∙◌, arith}
 use Rattle.std.specs.Prelude.{slice_index}
 use Rattle.cdcl_core.proofs.Longer.{longer_on}
 use Rattle.distance_search.proofs.Lowering.{smaller, turned, lowest_at_zero, level_there, found_there}

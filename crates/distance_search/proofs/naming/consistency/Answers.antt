@@ -1,4 +1,4 @@
-use Rattle.std.proofs.Common.{rules, arith, ◌≡◌, refl}
+use Rattle.std.proofs.Common.{rules, arith, ◌≡◌}
 use Rattle.distance_search.specs.declared.reply.SearchStop.{SearchStop}
 use Rattle.distance_search.specs.declared.reply.SearchStop.TheVariants.{NoMemory as OutOfMemory}
 use Rattle.distance_search.specs.Heard.{IsHalted}

@@ -1,4 +1,4 @@
-use Rattle.std.proofs.Common.{◌≡◌, ◌∙◌, sym, false}
+use Rattle.std.proofs.Common.{◌∙◌, sym}
 use Rattle.distance_search.proofs.Kept.{at_place, size_at, broken_at}
 use Rattle.distance_search.proofs.pool.breaker_at_hand.Goals as goal
 

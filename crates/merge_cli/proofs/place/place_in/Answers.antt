@@ -1,7 +1,4 @@
-use Rattle.std.proofs.Common.{◌≡◌, ℕ, List, [], ◌∷◌, drop, length, arith, sym, subst}
-use Rattle.std.specs.Prelude.{IfSome, IfNone}
-use Rattle.merge_cli.specs.declared.place.Place.{Place}
-use Rattle.merge_cli.specs.Places.{IsPlace}
+use Rattle.std.proofs.Common.{arith}
 use Rattle.merge_cli.proofs.Places.{last_word}
 use Rattle.merge_cli.proofs.place.place_in.Goals as goal
 

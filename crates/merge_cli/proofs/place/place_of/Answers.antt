@@ -1,6 +1,5 @@
-use Rattle.std.proofs.Common.{rules, ◌≡◌, ℕ, Bool, List, [], ◌∷◌, All, length, ◌≤◌, ◌<◌, arith, subst, sym, true, false}
-use Rattle.merge_cli.specs.declared.place.Place.TheVariants.{Above}
-use Rattle.merge_cli.specs.Places.{IsPlace, IsTruthDigit, is_one}
+use Rattle.std.proofs.Common.{rules, ◌≡◌, ℕ, List, All, length, ◌≤◌, ◌<◌, arith, subst, sym, true}
+use Rattle.merge_cli.specs.Places.{IsTruthDigit}
 use Rattle.merge_cli.proofs.Places.{says_long, says_above, place_digits}
 use Rattle.merge_cli.proofs.place.place_of.Goals.{then-is_empty-via-then-is_empty, then-is_empty-via-else-is_empty+then-not-are_truth_digits}
 use Rattle.merge_cli.proofs.place.place_of.Goals as goal

@@ -1,4 +1,4 @@
-use Rattle.std.proofs.Common.{◌≡◌, ◌<◌, length, get_or, set, ap, ◌∙◌, arith, refl}
+use Rattle.std.proofs.Common.{◌<◌, length, get_or, ap, ◌∙◌, arith, refl}
 use Rattle.std.proofs.lemmas.List.{length-set}
 use Rattle.formulas.specs.WordLaws.{word_size}
 use Rattle.merge_cli.proofs.Places.{one_more_digit, whole_valuation}

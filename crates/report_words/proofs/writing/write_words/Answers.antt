@@ -1,4 +1,4 @@
-use Rattle.std.proofs.Common.{refl, List, ℕ}
+use Rattle.std.proofs.Common.{refl}
 use Rattle.report_words.proofs.Growth.{part_of_words, all_words_written, stopped}
 use Rattle.report_words.proofs.writing.write_words.Goals as goal
 

@@ -1,4 +1,4 @@
-use Rattle.std.proofs.Common.{◌≡◌, ◌≤◌, ◌++◌, ◌∙◌, List, ℕ, length, ap, sym, subst, arith}
+use Rattle.std.proofs.Common.{◌≤◌, ◌++◌, ◌∙◌, List, ℕ, length, ap, subst, arith}
 use Rattle.std.proofs.Math.ListN.{drop, take}
 use Rattle.watch_lists.specs.Seats.{AreNone, heads_of}
 use Rattle.watch_lists.proofs.Seats.{none_heads, wrote}

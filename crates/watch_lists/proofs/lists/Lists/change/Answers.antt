@@ -4,7 +4,7 @@ use Rattle.std.proofs.lemmas.List.{get_or_default}
 use Rattle.std.proofs.lemmas.Grind.{get_or_default_zero}
 use Rattle.watch_lists.specs.declared.lists.Watch.{Watch}
 use Rattle.watch_lists.specs.Watches.{lit_at, mate}
-use Rattle.watch_lists.specs.Seats.{Seated, slot_at, no_watch, others_of, next_of}
+use Rattle.watch_lists.specs.Seats.{Seated, slot_at, no_watch, others_of}
 use Rattle.watch_lists.proofs.Seats.{next_room, mate_lt, slot_lt, changed_is, changed_others, same_row}
 use Rattle.watch_lists.proofs.lists.Lists.change.Goals as goal
 

@@ -1,6 +1,6 @@
-use Rattle.std.proofs.Common.{◌≡◌, ◌+◌, ◌<◌, ◌++◌, ◌∷◌, [], ℕ, List, length, refl, ap, sym, ◌∙◌, subst, arith}
+use Rattle.std.proofs.Common.{◌≡◌, ◌+◌, ◌++◌, ◌∷◌, [], ℕ, List, length, refl, ap, ◌∙◌, arith}
 use Rattle.watch_lists.specs.declared.lists.Watch.{Watch}
-use Rattle.watch_lists.specs.Seats.{Seated, AreSeated, IsGrown, heads_of, next_of, others_of, no_watch}
+use Rattle.watch_lists.specs.Seats.{Seated, no_watch}
 use Rattle.watch_lists.proofs.Seats.{next_room}
 use Rattle.watch_lists.proofs.Grown.{grown_seats, grown_is}
 use Rattle.watch_lists.proofs.lists.Lists.grow.Goals as goal
