@@ -1,8 +1,8 @@
 // Logs over fourteen main clauses, made from step lines.
-ghost use Rattle.std.specs.Prelude.{◌≡◌, ◌<◌, ◌≤◌, OnOk, IfOk, IsTrue, length};
+ghost use Rattle.std.specs.Prelude.{◌≡◌, ◌<◌, ◌≤◌, ◌&&◌, nat_le, OnOk, IfOk, IsTrue, length};
+ghost use Rattle.std.specs.List.{list_all};
 ghost use Rattle.clause_store.specs.Lits.{InRange};
 ghost use Rattle.derivation_log.specs.Logs.{known_of, Follows, IsSound};
-ghost use Rattle.std.specs.List.{AllByRecursion};
 
 use clause_store::{ClauseList, Lit};
 use derivation_log::{Derivations, Step, TrimmedLog, read_step, trim};
@@ -10,12 +10,18 @@ use log_checker::check_step;
 use std::alloc::Global;
 use std::test::Fail;
 
+fn is_within(vars: u32, lit: Lit) -> bool
+    ensures { result ≡ (nat_le 1 lit.var && nat_le lit.var vars) }
+{
+    1 <= lit.var && lit.var <= vars
+}
+
 /// Whether each literal is of one of so many variables.
 fn are_within(vars: u32, lits: &[Lit]) -> bool
-    ensures { IsTrue result → InRange vars lits.now }
+    ensures { result ≡ list_all (λ lit. nat_le 1 lit.var && nat_le lit.var vars) lits.now }
 {
     for lit in lits {
-        if lit.var == 0 || lit.var > vars {
+        if !is_within(vars, *lit) {
             return false;
         }
     }
@@ -30,9 +36,7 @@ fn lit(number: i32) -> Lit {
 }
 
 /// Adds the clause of these literals.
-fn put(list: &mut ClauseList, lits: &[Lit]) -> Result<(), Fail>
-    ensures { OnOk result (list.new.vars ≡ list.old.vars) }
-{
+fn put(list: &mut ClauseList, lits: &[Lit]) -> Result<(), Fail> {
     if !are_within(list.vars(), lits) {
         return Err(Fail::new("a main clause is out of range"));
     }
@@ -48,16 +52,10 @@ fn put_three(list: &mut ClauseList, a: i32, b: i32, c: i32) -> Result<(), Fail> 
     put(list, &[lit(a), lit(b), lit(c)])
 }
 
-fn eight_variables(alloc: Global) -> ClauseList {
-    let mut list = ClauseList::new(alloc);
-    let _ = (list.fresh(), list.fresh(), list.fresh(), list.fresh());
-    let _ = (list.fresh(), list.fresh(), list.fresh(), list.fresh());
-    list
-}
-
 /// The variables 1, 2 and 4 are equal, and 3 and 5 are their opposite.
 fn eight_clauses(alloc: Global) -> Result<ClauseList, Fail> {
-    let mut list = eight_variables(alloc);
+    let mut list = ClauseList::new(alloc);
+    let _variables = list.fresh_vars(8)?;
     put_two(&mut list, 1, -2)?;
     put_two(&mut list, -1, 2)?;
     put_two(&mut list, -2, -3)?;
@@ -95,8 +93,11 @@ fn judged(alloc: Global, log: &Derivations, line: &[u8]) -> Result<Step, Fail>
 {
     let (number, step) = read_step(alloc, line)?;
     let known = log.known();
-    if number != known.len() || !are_within(known.vars(), step.clause.lits()) {
-        return Err(Fail::new("a step has a wrong number or is out of range"));
+    if number != known.len() {
+        return Err(Fail::new("a step has another number than the next"));
+    }
+    if !are_within(known.vars(), step.clause.lits()) {
+        return Err(Fail::new("a step is out of range"));
     }
     check_step(alloc, known, &step)?;
     Ok(step)
@@ -123,29 +124,31 @@ pub fn log_of(alloc: Global, first: &[u8], second: &[u8], third: &[u8]) -> Resul
     Ok(log)
 }
 
-/// Whether each number is that of a step.
-fn are_steps(log: &Derivations, numbers: &[u64]) -> bool
-    ensures { IsTrue result → AllByRecursion
-        (λ n. (length log.now.main ≤ n) × (n < length (known_of log.now))) numbers.now }
+fn is_step(log: &Derivations, number: u64) -> bool
+    ensures { IsTrue result → (length log.now.main ≤ number) × (number < length (known_of log.now)) }
 {
-    let main = log.main_len();
-    let end = log.known().len();
-    for number in numbers {
-        if *number < main || end <= *number {
-            return false;
-        }
-    }
-    true
+    log.main_len() <= number && number < log.known().len()
 }
 
-/// The log of which the steps that are needed for these are left.
-pub fn trimmed(alloc: Global, log: Derivations, needed: &[u64]) -> Result<TrimmedLog, Fail>
+/// The log of which what is needed for the step of this number is left.
+pub fn trimmed_to(alloc: Global, log: Derivations, number: u64) -> Result<TrimmedLog, Fail>
     requires { IsSound log.main log.steps }
 {
-    if !are_steps(&log, needed) {
+    if !is_step(&log, number) {
         return Err(Fail::new("a number is not that of a step"));
     }
-    let left = trim(alloc, log, needed)?;
+    let left = trim(alloc, log, &[number])?;
+    Ok(left)
+}
+
+/// The same with the number named twice.
+pub fn trimmed_to_twice(alloc: Global, log: Derivations, number: u64) -> Result<TrimmedLog, Fail>
+    requires { IsSound log.main log.steps }
+{
+    if !is_step(&log, number) {
+        return Err(Fail::new("a number is not that of a step"));
+    }
+    let left = trim(alloc, log, &[number, number])?;
     Ok(left)
 }
 

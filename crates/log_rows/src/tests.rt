@@ -2,7 +2,7 @@
 ghost use Rattle.std.specs.Prelude.{IfOk};
 ghost use Rattle.derivation_log.specs.Logs.{IsSound};
 
-use crate::logs::{has_step, log_of, trimmed};
+use crate::logs::{has_step, log_of, trimmed_to, trimmed_to_twice};
 use derivation_log::Derivations;
 use std::alloc::Global;
 use std::test::Fail;
@@ -51,7 +51,7 @@ fn are_last_two(alloc: Global, log: &Derivations) -> Result<bool, Fail> {
 #[test]
 fn a_step_that_uses_no_other_is_left_alone(rt: HostRuntime) -> Result<(), Fail> {
     let alloc = rt.alloc();
-    let left = trimmed(alloc, with_last_alone(alloc)?, &[16])?;
+    let left = trimmed_to(alloc, with_last_alone(alloc)?, 16)?;
     assert_eq!(rt; left.numbers.as_slice(), [14].as_slice());
     assert!(rt; is_last_alone(alloc, &left.derivations)?);
     Ok(())
@@ -60,7 +60,7 @@ fn a_step_that_uses_no_other_is_left_alone(rt: HostRuntime) -> Result<(), Fail> 
 #[test]
 fn a_step_that_is_named_twice_is_left_once(rt: HostRuntime) -> Result<(), Fail> {
     let alloc = rt.alloc();
-    let left = trimmed(alloc, with_last_alone(alloc)?, &[16, 16])?;
+    let left = trimmed_to_twice(alloc, with_last_alone(alloc)?, 16)?;
     assert_eq!(rt; left.numbers.as_slice(), [14, 14].as_slice());
     assert!(rt; is_last_alone(alloc, &left.derivations)?);
     Ok(())
@@ -69,7 +69,7 @@ fn a_step_that_is_named_twice_is_left_once(rt: HostRuntime) -> Result<(), Fail> 
 #[test]
 fn what_a_step_uses_is_left_with_it(rt: HostRuntime) -> Result<(), Fail> {
     let alloc = rt.alloc();
-    let left = trimmed(alloc, with_first_alone(alloc)?, &[16])?;
+    let left = trimmed_to(alloc, with_first_alone(alloc)?, 16)?;
     assert_eq!(rt; left.numbers.as_slice(), [15].as_slice());
     assert!(rt; are_last_two(alloc, &left.derivations)?);
     Ok(())
