@@ -140,7 +140,7 @@ fn a_constraint_that_is_never_true_is_refuted(rt: HostRuntime) -> Result<(), Fai
 /// Closest are the two valuations with the first atom true, each at 0 from one agent and at 1 from
 /// the other.
 #[test]
-fn closest_models_begin_with_given_values(rt: HostRuntime) -> Result<(), Fail> {
+fn a_best_model_under_the_sorted_distances(rt: HostRuntime) -> Result<(), Fail> {
     let mut search = search_about(rt.alloc(), NEARLY_AGREED, Hamming, Leximax, AMPLE)?;
     let Some(best) = best_of(&mut search) else {
         assert!(rt; false);
@@ -149,35 +149,46 @@ fn closest_models_begin_with_given_values(rt: HostRuntime) -> Result<(), Fail> {
     assert_eq!(rt; best.measure.as_slice(), [1, 0].as_slice());
     assert_eq!(rt; best.values.as_slice(), [0, 1].as_slice());
     assert!(rt; matches!(best.least.as_slice(), [None, Some(_)]));
-    for (prefix, closest) in [
-        ([true, true], Some(Valuation::new(3, 2))),
-        ([true, false], Some(Valuation::new(2, 2))),
-        ([false, true], None),
-        ([false, false], None),
-    ] {
-        let found = closest_beginning_with(&mut search, &best, &prefix);
-        assert_eq!(rt; found, Some(closest));
-    }
-    assert_eq!(rt;
-        closest_beginning_with(&mut search, &best, &[false]),
-        Some(None)
-    );
+    assert!(rt; matches!(first_verdict(&mut search, &best), Some(Entails::Yes(_))));
     Ok(())
 }
 
 #[test]
-fn the_distances_of_models_that_need_not_be_closest(rt: HostRuntime) -> Result<(), Fail> {
-    let mut search = search_about(rt.alloc(), NEARLY_AGREED, Hamming, Sum, AMPLE)?;
+fn closest_models_begin_with_given_values(rt: HostRuntime) -> Result<(), Fail> {
+    let mut search = search_about(rt.alloc(), NEARLY_AGREED, Hamming, Leximax, AMPLE)?;
+    let Some(best) = best_of(&mut search) else {
+        assert!(rt; false);
+        return Ok(());
+    };
+    let both = closest_beginning_with(&mut search, &best, &[true, true]);
+    assert_eq!(rt; both, Some(Some(Valuation::new(3, 2))));
+    let first = closest_beginning_with(&mut search, &best, &[true, false]);
+    assert_eq!(rt; first, Some(Some(Valuation::new(2, 2))));
+    let neither = closest_beginning_with(&mut search, &best, &[false]);
+    assert_eq!(rt; neither, Some(None));
+    Ok(())
+}
+
+#[test]
+fn distances_of_models_that_need_not_be_closest(rt: HostRuntime) -> Result<(), Fail> {
     let nearest = [Valuation::new(3, 2), Valuation::new(2, 2)];
-    for (bits, vector) in [(0, [2, 1]), (1, [1, 2]), (2, [1, 0]), (3, [0, 1])] {
-        let Some(away) = distances_over_two(&mut search, bits) else {
-            assert!(rt; false);
-            return Ok(());
-        };
-        assert_eq!(rt; away.shown.model, Valuation::new(bits, 2));
-        assert_eq!(rt; away.shown.vector.as_slice(), vector.as_slice());
-        assert_eq!(rt; away.shown.nearest.as_slice(), nearest.as_slice());
-    }
+    let mut search = search_about(rt.alloc(), NEARLY_AGREED, Hamming, Sum, AMPLE)?;
+    let Some(second) = distances_over_two(&mut search, 1) else {
+        assert!(rt; false);
+        return Ok(());
+    };
+    assert_eq!(rt; second.shown.model, Valuation::new(1, 2));
+    assert_eq!(rt; second.shown.vector.as_slice(), [1, 2].as_slice());
+    assert_eq!(rt; second.shown.nearest.as_slice(), nearest.as_slice());
+    assert!(rt; has_steps(&search, second.far.as_slice()));
+    let Some(both) = distances_over_two(&mut search, 3) else {
+        assert!(rt; false);
+        return Ok(());
+    };
+    assert_eq!(rt; both.shown.model, Valuation::new(3, 2));
+    assert_eq!(rt; both.shown.vector.as_slice(), [0, 1].as_slice());
+    assert_eq!(rt; both.shown.nearest.as_slice(), nearest.as_slice());
+    assert!(rt; matches!(both.far.as_slice(), [None, Some(_)]));
     Ok(())
 }
 
