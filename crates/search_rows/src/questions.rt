@@ -45,7 +45,7 @@ pub fn consistency_of<D: Counted + Drop, A: Levelled + Drop>(
 fn has_models<D: Counted + Drop, A: Levelled + Drop>(search: &mut Search<D, A>) -> bool
     ensures subject { search.new.subject ≡ search.old.subject }
     ensures models { IsTrue result →
-        IsConsistent (⟦<Subject<D, A> as Questions>⟧.setting search.old.subject) }
+        IsConsistent (⟦<Subject<D, A> as Questions>⟧.setting search.new.subject) }
 {
     match search.consistency() {
         Ok(found) => found.has_models(),
@@ -65,13 +65,13 @@ pub fn best_of<D: Counted + Drop, A: Levelled + Drop>(search: &mut Search<D, A>)
     }
 }
 
-/// The verdict on the first query.
-pub fn first_verdict<D: Counted + Drop, A: Levelled + Drop>(
+/// The verdict on the first query, by a best answer.
+fn verdict_by<D: Counted + Drop, A: Levelled + Drop>(
     search: &mut Search<D, A>,
     best: &Best,
 ) -> Option<Entails>
     requires { IsBestFor (⟦<Subject<D, A> as Questions>⟧.setting search.old.subject) best.now }
-    ensures { search.new.subject ≡ search.old.subject }
+    ensures { IsBestFor (⟦<Subject<D, A> as Questions>⟧.setting search.new.subject) best.now }
 {
     if search.problem().asks.is_empty() {
         None
@@ -80,20 +80,48 @@ pub fn first_verdict<D: Counted + Drop, A: Levelled + Drop>(
     }
 }
 
-/// A closest model that begins with these values.
-pub fn closest_beginning_with<D: Counted + Drop, A: Levelled + Drop>(
+/// The verdict on the first query.
+pub fn first_verdict<D: Counted + Drop, A: Levelled + Drop>(
+    search: &mut Search<D, A>,
+) -> Option<Entails> {
+    let best = best_of(search)?;
+    verdict_by(search, &best)
+}
+
+/// The verdict on the first query where it is asked for the second time, and whether the log stays
+/// as it was then.
+pub fn verdict_again<D: Counted + Drop, A: Levelled + Drop>(
+    search: &mut Search<D, A>,
+) -> Option<(Entails, bool)> {
+    let best = best_of(search)?;
+    let _first = verdict_by(search, &best)?;
+    let known = search.derivations().known().len();
+    let again = verdict_by(search, &best)?;
+    Some((again, search.derivations().known().len() == known))
+}
+
+/// A closest model that begins with these values, by a best answer.
+fn closest_by<D: Counted + Drop, A: Levelled + Drop>(
     search: &mut Search<D, A>,
     best: &Best,
     prefix: &[bool],
 ) -> Option<Option<Valuation>>
     requires { IsBestFor (⟦<Subject<D, A> as Questions>⟧.setting search.old.subject) best.now }
-    ensures { search.new.subject ≡ search.old.subject }
 {
     if prefix.len() <= search.problem().atoms.len() as usize {
         search.closest_with(best, prefix).ok()
     } else {
         None
     }
+}
+
+/// A closest model that begins with these values.
+pub fn closest_beginning_with<D: Counted + Drop, A: Levelled + Drop>(
+    search: &mut Search<D, A>,
+    prefix: &[bool],
+) -> Option<Option<Valuation>> {
+    let best = best_of(search)?;
+    closest_by(search, &best, prefix)
 }
 
 /// The distances of the valuation of two atoms that `bits` stands for, where the constraint and
