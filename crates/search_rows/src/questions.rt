@@ -88,16 +88,16 @@ pub fn first_verdict<D: Counted + Drop, A: Levelled + Drop>(
     verdict_by(search, &best)
 }
 
-/// The verdict on the first query where it is asked for the second time, and whether the log stays
-/// as it was then.
-pub fn verdict_again<D: Counted + Drop, A: Levelled + Drop>(
+/// Whether the log stays as it was where the verdict on the first query is asked for the second
+/// time.
+pub fn stays_where_asked_again<D: Counted + Drop, A: Levelled + Drop>(
     search: &mut Search<D, A>,
-) -> Option<(Entails, bool)> {
+) -> Option<bool> {
     let best = best_of(search)?;
     let _first = verdict_by(search, &best)?;
     let known = search.derivations().known().len();
-    let again = verdict_by(search, &best)?;
-    Some((again, search.derivations().known().len() == known))
+    let _again = verdict_by(search, &best)?;
+    Some(search.derivations().known().len() == known)
 }
 
 /// A closest model that begins with these values, by a best answer.

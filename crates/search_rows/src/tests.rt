@@ -1,7 +1,7 @@
 // What searches about small problems answer where memory is ample.
 use crate::questions::{
     best_of, closest_beginning_with, consistency_of, distances_over_two, first_verdict, has_step,
-    has_steps, is_named, refuting_step, search_about, verdict_again,
+    has_steps, is_named, refuting_step, search_about, stays_where_asked_again,
 };
 use distance_search::{Entails, SearchStop};
 use formulas::Valuation;
@@ -95,16 +95,23 @@ fn a_best_model_under_the_greatest_distance(rt: HostRuntime) -> Result<(), Fail>
     Ok(())
 }
 
-/// What breaks the query is at 1 from `r`, and the second time it is at hand.
+/// What breaks the query is at 1 from `r`.
 #[test]
-fn a_verdict_asked_for_again_appends_nothing(rt: HostRuntime) -> Result<(), Fail> {
+fn a_closest_model_breaks_the_query(rt: HostRuntime) -> Result<(), Fail> {
     let mut search = search_about(rt.alloc(), CONTRADICTING, Hamming, Max, AMPLE)?;
-    let Some((Entails::No(away), is_same)) = verdict_again(&mut search) else {
+    let Some(Entails::No(away)) = first_verdict(&mut search) else {
         assert!(rt; false);
         return Ok(());
     };
     assert_eq!(rt; away.shown.vector.as_slice().get(2), Some(&1));
-    assert!(rt; is_same);
+    Ok(())
+}
+
+/// The second time what breaks the query is at hand.
+#[test]
+fn a_verdict_asked_for_again_appends_nothing(rt: HostRuntime) -> Result<(), Fail> {
+    let mut search = search_about(rt.alloc(), CONTRADICTING, Hamming, Max, AMPLE)?;
+    assert_eq!(rt; stays_where_asked_again(&mut search), Some(true));
     Ok(())
 }
 
