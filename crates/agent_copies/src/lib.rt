@@ -8,6 +8,3 @@ mod difference;
 
 pub use copy::{AgentCopy, copy_agent};
 pub use counted::Counted;
-
-#[cfg(test)]
-mod tests;

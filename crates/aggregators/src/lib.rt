@@ -8,6 +8,3 @@ mod max;
 mod sum;
 
 pub use levelled::Levelled;
-
-#[cfg(test)]
-mod tests;

@@ -4,7 +4,5 @@
 mod bench;
 mod draws;
 mod planted;
-#[cfg(test)]
-mod tests;
 
 pub use bench::{bench_has_models, bench_problem};

@@ -10,6 +10,3 @@ pub use assignment::Assignment;
 pub use clause::{Clause, has_lit};
 pub use clause_list::ClauseList;
 pub use lit::Lit;
-
-#[cfg(test)]
-mod tests;

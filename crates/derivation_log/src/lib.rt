@@ -15,6 +15,3 @@ pub use laws::{one_step, read_back};
 pub use reading::{StepReadStop, read_step};
 pub use step::{Chain, Link, Step, StepKind};
 pub use writing::write_step;
-
-#[cfg(test)]
-mod tests;

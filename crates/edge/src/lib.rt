@@ -11,8 +11,6 @@ mod refused;
 mod sink;
 mod source;
 mod streams;
-#[cfg(test)]
-mod tests;
 mod words;
 
 pub use memory_sink::MemorySink;

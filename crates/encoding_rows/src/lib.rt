@@ -1,5 +1,14 @@
-//! Worked main clauses and claims. There is nothing here but tests.
+//! Worked main clauses, the parts that they are made of, and claims. There is nothing here but
+//! tests.
 #![tactic(auto)]
 
+#[cfg(test)]
+mod copies;
+#[cfg(test)]
+mod counters;
+#[cfg(test)]
+mod definitions;
+#[cfg(test)]
+mod levels;
 #[cfg(test)]
 mod tests;

@@ -9,8 +9,6 @@ mod stack;
 mod strip;
 mod symbol;
 mod symbols;
-#[cfg(test)]
-mod tests;
 
 pub use formula_text::write_formula;
 pub use formulas::{Atoms, Formula, Valuation};

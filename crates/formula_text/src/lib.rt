@@ -72,26 +72,3 @@ fn write_joined(
     write_formula(right, atoms, into)?;
     write_bytes(b")", into)
 }
-
-#[cfg(test)]
-mod tests {
-    use super::*;
-    use std::test::Fail;
-
-    #[test]
-    fn each_connective_is_written_in_brackets(rt: HostRuntime) -> Result<(), Fail> {
-        let alloc = rt.alloc();
-        let mut atoms = Atoms::new(alloc);
-        let dry = atoms.add("dry")?;
-        let either = Formula::disjunction(alloc, Formula::Atom(dry), Formula::Bottom)?;
-        let both = Formula::conjunction(alloc, either, Formula::Top)?;
-        let not_dry = Formula::negation(alloc, Formula::Atom(dry))?;
-        let implied = Formula::implication(alloc, not_dry, both)?;
-        let formula = Formula::equivalence(alloc, implied, Formula::Atom(dry))?;
-        let mut text = b"constraint ".to_vec(alloc)?;
-        write_formula(&formula, &atoms, &mut text)?;
-        let want = b"constraint ((!dry -> ((dry | false) & true)) <-> dry)";
-        assert_eq!(rt; text.as_slice(), want.as_slice());
-        Ok(())
-    }
-}

@@ -86,38 +86,3 @@ pub fn tokens(alloc: Global, text: &[u8]) -> Result<Option<Vec<Token>>, NoMemory
     }
     Ok(Some(found))
 }
-
-#[cfg(test)]
-mod tests {
-    use super::*;
-    use std::test::Fail;
-
-    #[test]
-    fn cuts_words_and_marks(rt: HostRuntime) -> Result<(), Fail> {
-        let alloc = rt.alloc();
-        let rows: [(&[u8], &str); 4] = [
-            (
-                b"a1<->!b_\t",
-                "[Word(\"a1\"), BothArrow, Bang, Word(\"b_\")]",
-            ),
-            (
-                b"(x:9)&|->",
-                "[Open, Word(\"x\"), Colon, Word(\"9\"), Close, Ampersand, Bar, Arrow]",
-            ),
-            (
-                b"<- > --><->>",
-                "[Stray, Stray, Stray, Stray, Arrow, BothArrow, Stray]",
-            ),
-            (b" \t\r", "[]"),
-        ];
-        for (text, want) in rows {
-            let found = tokens(alloc, text)?.ok_or("a bad byte")?;
-            let shown = format!(in alloc; "{found:?}")?;
-            assert_eq!(rt; shown.as_str(), want);
-        }
-        for text in [b"a.b", b"a\nb", b"a#b", b"a=b", b"a\x80b"] {
-            assert!(rt; tokens(alloc, text)?.is_none());
-        }
-        Ok(())
-    }
-}

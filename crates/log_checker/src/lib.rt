@@ -9,6 +9,3 @@ mod refuting;
 pub use checking::{StepStop, check_step};
 pub use laws::{log_law, one_answer, step_law};
 pub use refuting::refutes;
-
-#[cfg(test)]
-mod tests;

@@ -27,6 +27,3 @@ pub use problem::Problem;
 pub use sequence::Sequence;
 pub use sorted::Leximax;
 pub use summed::Sum;
-
-#[cfg(test)]
-mod tests;

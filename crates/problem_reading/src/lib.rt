@@ -11,8 +11,6 @@ mod past;
 mod reading;
 mod said;
 mod stop;
-#[cfg(test)]
-mod tests;
 mod text;
 mod writing;
 

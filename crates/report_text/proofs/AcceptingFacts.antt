@@ -5,7 +5,6 @@ use Rattle.std.proofs.lemmas.List.{append-nil}
 use Rattle.std.proofs.lemmas.List.Elements.{All-nil, All-append}
 use Rattle.report_lines.specs.declared.kinds.Kind.{Kind}
 use Rattle.report_lines.specs.declared.kinds.RefusedKind.TheVariants as refused
-use Rattle.report_lines.specs.Places.{start}
 use Rattle.report_lines.specs.Judged.{IsAccepted}
 use Rattle.report_text.specs.declared.accepting.AcceptStop.{AcceptStop}
 use Rattle.report_text.specs.declared.progress.Progress.{Progress}
@@ -16,16 +15,7 @@ use Rattle.report_text.specs.Checker.{Stands, IsFit, IsOver, IsNext, IsOutcome}
 use Rattle.report_text.specs.Open.{Open}
 use Rattle.report_text.specs.Progress.{StandsBefore, IsAt, IsTaken, IsFed}
 use Rattle.report_text.proofs.CheckerPlaces.{is_over, over_due, is_fit}
-use Rattle.report_text.proofs.OpenLaws.{open_start, open_feed, open_more, open_wrong, open_late, open_past, open_over, open_unended}
-
-pub at_start : (progress : Progress) → Stands progress.checker start → progress.held.items ≡ [] → progress.number ≡ 1 → IsAt [] progress
-at_start progress h none first = record {
-  place = start;
-  stands = h;
-  reads = subst (λ (held : List ℕ). Open [] held start progress.number) (sym none) (subst (Open [] [] start) (sym first) open_start);
-  unended = subst HasNoFeed (sym none) (All-nil (λ b. eqb b 10 ≡ false));
-  nothing_late = λ over. none;
-}
+use Rattle.report_text.proofs.OpenLaws.{open_feed, open_more, open_wrong, open_late, open_past, open_over, open_unended}
 
 -- a piece comes
 pub at_piece : (text piece : List ℕ) (progress : Progress) → IsAt text progress → StandsBefore (text ++ piece) piece progress

@@ -45,7 +45,7 @@ fn eight_clauses(alloc: Global) -> Result<ClauseList, Fail>
 }
 
 /// Beside these, 6 and 7 are equal, and 8 is whether 1 and 6 differ.
-fn fourteen_clauses(alloc: Global) -> Result<ClauseList, Fail>
+pub fn fourteen_clauses(alloc: Global) -> Result<ClauseList, Fail>
     ensures { IfOk result (λ list. list.vars ≡ 8) }
 {
     let mut list = eight_clauses(alloc)?;

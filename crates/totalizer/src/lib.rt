@@ -10,6 +10,3 @@ mod unary;
 pub use disjunction::either;
 pub use sums::{plus, total};
 pub use unary::{Unary, leaf, leaves};
-
-#[cfg(test)]
-mod tests;

@@ -4,7 +4,8 @@ ghost use Rattle.std.specs.List.{list_all};
 ghost use Rattle.clause_store.specs.Lits.{InRange};
 ghost use Rattle.derivation_log.specs.Logs.{known_of, Follows, IsSound};
 
-use clause_store::{ClauseList, Lit};
+use crate::questions::fourteen_clauses;
+use clause_store::Lit;
 use derivation_log::{Derivations, Step, TrimmedLog, read_step, trim};
 use log_checker::check_step;
 use std::alloc::Global;
@@ -26,57 +27,6 @@ fn are_within(vars: u32, lits: &[Lit]) -> bool
         }
     }
     true
-}
-
-fn lit(number: i32) -> Lit {
-    Lit {
-        var: number.unsigned_abs(),
-        positive: number > 0,
-    }
-}
-
-/// Adds the clause of these literals.
-fn put(list: &mut ClauseList, lits: &[Lit]) -> Result<(), Fail> {
-    if !are_within(list.vars(), lits) {
-        return Err(Fail::new("a main clause is out of range"));
-    }
-    let _number = list.add(lits)?;
-    Ok(())
-}
-
-fn put_two(list: &mut ClauseList, a: i32, b: i32) -> Result<(), Fail> {
-    put(list, &[lit(a), lit(b)])
-}
-
-fn put_three(list: &mut ClauseList, a: i32, b: i32, c: i32) -> Result<(), Fail> {
-    put(list, &[lit(a), lit(b), lit(c)])
-}
-
-/// The variables 1, 2 and 4 are equal, and 3 and 5 are their opposite.
-fn eight_clauses(alloc: Global) -> Result<ClauseList, Fail> {
-    let mut list = ClauseList::new(alloc);
-    let _variables = list.fresh_vars(8)?;
-    put_two(&mut list, 1, -2)?;
-    put_two(&mut list, -1, 2)?;
-    put_two(&mut list, -2, -3)?;
-    put_two(&mut list, 2, 3)?;
-    put_two(&mut list, 1, -4)?;
-    put_two(&mut list, -1, 4)?;
-    put_two(&mut list, -4, -5)?;
-    put_two(&mut list, 4, 5)?;
-    Ok(list)
-}
-
-/// Beside these, 6 and 7 are equal, and 8 is whether 1 and 6 differ.
-fn fourteen_clauses(alloc: Global) -> Result<ClauseList, Fail> {
-    let mut list = eight_clauses(alloc)?;
-    put_two(&mut list, 6, -7)?;
-    put_two(&mut list, -6, 7)?;
-    put_three(&mut list, 1, 6, -8)?;
-    put_three(&mut list, -1, -6, -8)?;
-    put_three(&mut list, -1, 6, 8)?;
-    put_three(&mut list, 1, -6, 8)?;
-    Ok(list)
 }
 
 /// The log of no step.
@@ -125,7 +75,8 @@ pub fn log_of(alloc: Global, first: &[u8], second: &[u8], third: &[u8]) -> Resul
 }
 
 fn is_step(log: &Derivations, number: u64) -> bool
-    ensures { IsTrue result → (length log.now.main ≤ number) × (number < length (known_of log.now)) }
+    ensures main { IsTrue result → length log.now.main ≤ number }
+    ensures known { IsTrue result → number < length (known_of log.now) }
 {
     log.main_len() <= number && number < log.known().len()
 }

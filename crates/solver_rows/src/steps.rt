@@ -1,23 +1,19 @@
-use crate::{Chain, Derivations, Link, Step, StepKind, StepReadStop, read_step, write_step};
-use clause_store::{Clause, ClauseList, Lit};
+// Steps that are read, written and judged.
+use crate::questions::fourteen_clauses;
+use clause_store::{Clause, Lit};
+use derivation_log::{Chain, Link, Step, StepKind, StepReadStop, read_step, write_step};
+use log_checker::{StepStop, check_step};
 use std::alloc::Global;
 use std::test::Fail;
 
-fn lit(number: i32) -> Lit {
-    Lit {
-        var: number.unsigned_abs(),
-        positive: number > 0,
-    }
-}
-
 fn is_claimed(step: &Step) -> bool {
     let link = Link {
-        pivot: lit(-6),
+        pivot: Lit::negative(6),
         number: 8,
     };
     step.kind == StepKind::Claimed
         && step.first == 13
-        && step.clause.lits() == [lit(1), lit(-7), lit(8)].as_slice()
+        && step.clause.lits() == [Lit::positive(1), Lit::negative(7), Lit::positive(8)].as_slice()
         && step.chain.as_slice() == [link].as_slice()
 }
 
@@ -66,7 +62,7 @@ fn a_step_is_written_as_its_line(rt: HostRuntime) -> Result<(), Fail> {
     let mut text = Vec::new(rt.alloc());
     let step = Step {
         kind: StepKind::Learned,
-        clause: Clause::from_lits(rt.alloc(), &[lit(8), lit(-7)])?,
+        clause: Clause::from_lits(rt.alloc(), &[Lit::positive(8), Lit::negative(7)])?,
         first: 13,
         chain: Chain::from_vec(Vec::new(rt.alloc())),
     };
@@ -75,22 +71,50 @@ fn a_step_is_written_as_its_line(rt: HostRuntime) -> Result<(), Fail> {
     Ok(())
 }
 
-#[test]
-fn a_log_keeps_its_steps(rt: HostRuntime) -> Result<(), Fail> {
-    let mut main = ClauseList::new(rt.alloc());
-    let a = main.fresh();
-    main.add(&[a])?;
-    let mut log = Derivations::new(rt.alloc(), main);
+/// The answer for a step from clause 13 by one link.
+fn answer(
+    alloc: Global,
+    clause: &[Lit],
+    pivot: Lit,
+    number: u64,
+) -> Result<Option<StepStop>, Fail> {
+    let known = fourteen_clauses(alloc)?;
+    let clause = Clause::from_lits(alloc, clause)?;
+    let link = Link { pivot, number };
     let step = Step {
-        kind: StepKind::Learned,
-        clause: Clause::empty(rt.alloc()),
-        first: 0,
-        chain: Chain::from_vec(Vec::new(rt.alloc())),
+        kind: StepKind::Claimed,
+        clause,
+        first: 13,
+        chain: Chain::from_vec(vec![in alloc; link]?),
     };
-    assert_eq!(rt; log.append(step)?, 1);
-    let kept = log.step(rt.alloc(), 1)?;
-    assert!(rt;
-        log.kind(1) == StepKind::Learned && kept.first == 0 && kept.clause.lits().is_empty()
+    Ok(check_step(alloc, &known, &step).err())
+}
+
+#[test]
+fn a_step_is_judged(rt: HostRuntime) -> Result<(), Fail> {
+    let alloc = rt.alloc();
+    let whole = [Lit::positive(1), Lit::negative(7), Lit::positive(8)];
+    assert_eq!(rt; answer(alloc, &whole, Lit::negative(6), 8)?, None);
+    assert_eq!(rt;
+        answer(alloc, &whole, Lit::negative(6), 14)?,
+        Some(StepStop::NoSuchClause)
+    );
+    assert_eq!(rt;
+        answer(alloc, &whole, Lit::positive(6), 8)?,
+        Some(StepStop::NoPivot(0))
+    );
+    assert_eq!(rt;
+        answer(alloc, &whole, Lit::negative(6), 9)?,
+        Some(StepStop::NoPivot(0))
+    );
+    assert_eq!(rt;
+        answer(
+            alloc,
+            &[Lit::positive(1), Lit::positive(8)],
+            Lit::negative(6),
+            8
+        )?,
+        Some(StepStop::OtherClause)
     );
     Ok(())
 }

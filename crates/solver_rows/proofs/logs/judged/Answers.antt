@@ -1,8 +1,8 @@
 use Rattle.std.proofs.Common.{ℕ, ap, sym, ◌∙◌, subst}
 use Rattle.clause_store.specs.Clauses.{Clauses}
 use Rattle.clause_store.specs.Lits.{InRange}
-use Rattle.log_rows.proofs.Ranges.{are_in, in_range}
-use Rattle.log_rows.proofs.logs.judged.Goals as goal
+use Rattle.solver_rows.proofs.Ranges.{are_in, in_range}
+use Rattle.solver_rows.proofs.logs.judged.Goals as goal
 
 pub returns-clause-in_range : goal.returns-clause-in_range
 returns-clause-in_range c =

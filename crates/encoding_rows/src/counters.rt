@@ -1,9 +1,9 @@
 // The clauses of small counters.
 
-use crate::{Unary, either, leaf, leaves, plus, total};
 use clause_store::{ClauseList, Lit};
 use std::process::Abort;
 use std::test::Fail;
+use totalizer::{Unary, either, leaf, leaves, plus, total};
 
 /// The clauses of the sum of variables 1 and 2.
 fn assert_sum_of_two(rt: &impl Abort, clauses: &ClauseList, sum: &Unary) {

@@ -1,7 +1,7 @@
 use Rattle.std.proofs.Common.{sym, subst}
 use Rattle.derivation_log.specs.Logs.{Log, IsSound}
 use Rattle.derivation_log.proofs.Steps.{sound_push}
-use Rattle.log_rows.proofs.logs.append.Goals as goal
+use Rattle.solver_rows.proofs.logs.append.Goals as goal
 
 pub returns : goal.returns
 returns c =

@@ -1,6 +1,6 @@
 // The copies of an agent over one atom.
 
-use crate::{AgentCopy, copy_agent};
+use agent_copies::{AgentCopy, copy_agent};
 use clause_store::{ClauseList, Lit};
 use formulas::Formula;
 use merge_model::{Drastic, Hamming};

@@ -1,6 +1,7 @@
-use crate::{
-    MemorySink, MemorySource, NullSink, PlainSource, ReadStop, Sink, Source, StdSink, StdSource,
-    Words, read_all, send_all,
+// What sources give and sinks take.
+use edge::{
+    MemorySink, MemorySource, PlainSource, ReadStop, Sink, Source, StdSink, StdSource, read_all,
+    send_all,
 };
 use std::io::{self, Cursor, ErrorKind, Read, Write};
 use std::test::Fail;
@@ -73,18 +74,6 @@ fn reads_to_the_end_the_limit_or_the_fault(rt: HostRuntime) -> Result<(), Fail> 
     let mut source = PlainSource::new(Vec::from_slice(alloc, b"agent")?);
     let bytes = read_all(alloc, &mut source, None).or(Err("refused"))?;
     assert_eq!(rt; bytes.as_slice(), b"agent".as_slice());
-    Ok(())
-}
-
-#[test]
-fn sends_all_or_what_fits(rt: HostRuntime) -> Result<(), Fail> {
-    let alloc = rt.alloc();
-    for (room, want, held) in [(5, Ok(()), "agent"), (4, Err(4), "agen"), (0, Err(0), "")] {
-        let mut sink = MemorySink::new(alloc, room, 3)?;
-        assert_eq!(rt; send_all(&mut sink, b"agent"), want, "room {room}");
-        assert_eq!(rt; sink.as_slice(), held.as_bytes(), "room {room}");
-    }
-    assert_eq!(rt; send_all(&mut NullSink::new(), b"agent"), Ok(()));
     Ok(())
 }
 
@@ -166,19 +155,5 @@ fn a_reader_that_fails_midway_stops_reading(rt: HostRuntime) -> Result<(), Fail>
     let rest = read_all(rt.alloc(), &mut source, None);
     assert_eq!(rt; rest.map(|bytes| bytes.len()), Ok(3));
     assert_eq!(rt; source.read(&mut [0u8; 1]), Ok(0));
-    Ok(())
-}
-
-#[test]
-fn keeps_words_in_order(rt: HostRuntime) -> Result<(), Fail> {
-    let mut words = Words::new(rt.alloc());
-    assert!(rt; words.is_empty());
-    for word in ["merge", "", "sum"] {
-        words.push(word)?;
-    }
-    assert_eq!(rt; words.len(), 3);
-    assert_eq!(rt; words.get(0), "merge");
-    assert_eq!(rt; words.get(1), "");
-    assert_eq!(rt; words.get(2), "sum");
     Ok(())
 }
