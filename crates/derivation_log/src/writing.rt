@@ -9,7 +9,7 @@ ghost use Rattle.derivation_log.specs.StepLines.{widen, widen_link};
 use crate::step::{Link, Step, StepKind};
 use clause_store::Lit;
 use edge::NoMemory;
-use itoa::Buffer;
+use report_words::{WideLit, write_bytes, write_literal, write_number, write_word};
 
 /// Appends the line of a step of a number, with its line feed. Refused, it changes nothing.
 pub fn write_step(number: u64, step: &Step, into: &mut Vec<u8>) -> Result<(), NoMemory>
@@ -30,49 +30,34 @@ fn put_step(text: &mut Vec<u8>, number: u64, step: &Step) -> Result<(), NoMemory
     ensures { OnOk result (text.new.items ≡ text.old.items ++ line_of
         (step_words (step_line number step.now)) ++ codes "\n") }
 {
-    text.extend_from_slice(b"step")?;
-    put_number(text, number)?;
+    write_bytes(b"step", text)?;
+    write_number(number, text)?;
     put_kind(text, step.kind)?;
     put_literals(text, step.clause.lits())?;
-    put_number(text, 0)?;
-    put_number(text, step.first)?;
+    write_number(0, text)?;
+    write_number(step.first, text)?;
     put_links(text, step.chain.as_slice())?;
-    text.push(b'\n')?;
+    write_bytes(b"\n", text)?;
     Ok(())
-}
-
-fn put_word(text: &mut Vec<u8>, word: &[u8]) -> Result<(), NoMemory>
-    ensures { OnOk result (text.new.items ≡ text.old.items ++ 32 ∷ word.now) }
-{
-    text.push(b' ')?;
-    text.extend_from_slice(word)?;
-    Ok(())
-}
-
-fn put_number(text: &mut Vec<u8>, n: u64) -> Result<(), NoMemory>
-    ensures { OnOk result (text.new.items ≡ text.old.items ++ 32 ∷ decimal n) }
-{
-    put_word(text, Buffer::new().format(n).as_bytes())
 }
 
 fn put_kind(text: &mut Vec<u8>, kind: StepKind) -> Result<(), NoMemory>
     ensures { OnOk result (text.new.items ≡ text.old.items ++ 32 ∷ kind_word kind) }
 {
     match kind {
-        StepKind::Learned => put_word(text, b"learned"),
-        StepKind::Claimed => put_word(text, b"claimed"),
+        StepKind::Learned => write_word(b"learned", text),
+        StepKind::Claimed => write_word(b"claimed", text),
     }
 }
 
 fn put_literal(text: &mut Vec<u8>, lit: Lit) -> Result<(), NoMemory>
     ensures { OnOk result (text.new.items ≡ text.old.items ++ 32 ∷ literal_word (widen lit)) }
 {
-    if lit.positive {
-        return put_number(text, u64::from(lit.var));
-    }
-    text.extend_from_slice(b" -")?;
-    text.extend_from_slice(Buffer::new().format(lit.var).as_bytes())?;
-    Ok(())
+    let wide = WideLit {
+        positive: lit.positive,
+        var: u64::from(lit.var),
+    };
+    write_literal(wide, text)
 }
 
 fn put_literals(text: &mut Vec<u8>, lits: &[Lit]) -> Result<(), NoMemory>
@@ -90,7 +75,7 @@ fn put_link(text: &mut Vec<u8>, link: Link) -> Result<(), NoMemory>
         (link_words (widen_link link))) }
 {
     put_literal(text, link.pivot)?;
-    put_number(text, link.number)
+    write_number(link.number, text)
 }
 
 fn put_links(text: &mut Vec<u8>, links: &[Link]) -> Result<(), NoMemory>
