@@ -6,9 +6,10 @@ ghost use Rattle.clause_store.specs.Lits.{positive_lit};
 use agent_copies::AgentCopy;
 use clause_store::{Assignment, ClauseList, Lit};
 use edge::NoMemory;
-use formulas::{Atoms, Formula, Valuation};
+use formulas::Valuation;
 use merge_encoding::{Claim, Frame, assumptions, encode};
-use merge_model::{Agent, Drastic, Hamming, Leximax, Max, Problem, Sequence, Sum};
+use merge_model::{Drastic, Hamming, Leximax, Max, Problem, Sequence, Sum};
+use problem_reading::read_problem;
 use std::alloc::Global;
 use std::test::Fail;
 use totalizer::Unary;
@@ -58,40 +59,9 @@ fn push_outputs(numbers: &mut Vec<i64>, counter: &Unary) -> Result<(), NoMemory>
     Ok(())
 }
 
-fn one_atom(alloc: Global) -> Result<Atoms, NoMemory>
-    ensures { IfOk result (λ atoms. atoms ≡ (97 ∷ []) ∷ []) }
-{
-    let mut atoms = Atoms::new(alloc);
-    atoms.add("a")?;
-    Ok(atoms)
-}
-
-fn one_agent(alloc: Global) -> Result<Sequence<Agent>, NoMemory>
-    ensures { IfOk result
-        (λ agents. agents ≡ record { name = 112 ∷ []; times = 1; base = Formula.Atom 0 } ∷ []) }
-{
-    let agent = Agent {
-        name: Sequence::from_vec(vec![in alloc; b'p']?),
-        times: 1,
-        base: Formula::Atom(0),
-    };
-    Ok(Sequence::from_vec(vec![in alloc; agent]?))
-}
-
-fn one_query(alloc: Global) -> Result<Sequence<Formula>, NoMemory>
-    ensures { IfOk result (λ asks. asks ≡ Formula.Not (Formula.Atom 0) ∷ []) }
-{
-    let ask = Formula::negation(alloc, Formula::Atom(0))?;
-    Ok(Sequence::from_vec(vec![in alloc; ask]?))
-}
-
 // Of an atom a: the constraint !a, an agent p that believes a, and the query !a.
-fn small_problem(alloc: Global) -> Result<Problem, NoMemory> {
-    let atoms = one_atom(alloc)?;
-    let constraint = Formula::negation(alloc, Formula::Atom(0))?;
-    let agents = one_agent(alloc)?;
-    let asks = one_query(alloc)?;
-    Ok(Problem::new(atoms, constraint, agents, asks))
+fn small_problem(alloc: Global) -> Result<Problem, Fail> {
+    Ok(read_problem(alloc, b"atoms a\nconstraint !a\nagent p : a\nask !a\n")?)
 }
 
 // Its clauses for Hamming and the sum, each with 0 at its end.
@@ -102,7 +72,7 @@ const CLAUSES: [i64; 46] = [
 
 // The numbers of its variables and clauses for Hamming and the maximum, and for drastic and
 // leximax.
-fn sizes_of_others(alloc: Global) -> Result<[(u32, u64); 2], NoMemory> {
+fn sizes_of_others(alloc: Global) -> Result<[(u32, u64); 2], Fail> {
     let problem = small_problem(alloc)?;
     let most = encode(alloc, &problem, &Hamming, &Max)?;
     let sorted = encode(alloc, &problem, &Drastic, &Leximax)?;
