@@ -1,118 +1,78 @@
-// The clauses of small counters.
+// The outputs and the clauses of small counters, with 0 before each clause.
 
+use crate::numbers::counted;
 use clause_store::{ClauseList, Lit};
-use std::process::Abort;
+use edge::NoMemory;
+use std::alloc::Global;
 use std::test::Fail;
-use totalizer::{Unary, either, leaf, leaves, plus, total};
+use totalizer::{either, leaf, leaves, plus, total};
 
-/// The clauses of the sum of variables 1 and 2.
-fn assert_sum_of_two(rt: &impl Abort, clauses: &ClauseList, sum: &Unary) {
-    assert_eq!(rt; sum.outputs(), [3, 4].as_slice());
-    assert_eq!(rt; clauses.vars(), 4);
-    assert_eq!(rt; clauses.len(), 6);
-    assert_eq!(rt;
-        clauses.clause(0),
-        [Lit::positive(1), Lit::positive(2), Lit::negative(3)].as_slice()
-    );
-    assert_eq!(rt;
-        clauses.clause(1),
-        [Lit::negative(2), Lit::positive(3)].as_slice()
-    );
-    assert_eq!(rt;
-        clauses.clause(2),
-        [Lit::positive(1), Lit::negative(4)].as_slice()
-    );
-    assert_eq!(rt;
-        clauses.clause(3),
-        [Lit::negative(1), Lit::positive(3)].as_slice()
-    );
-    assert_eq!(rt;
-        clauses.clause(4),
-        [Lit::positive(2), Lit::negative(4)].as_slice()
-    );
-    assert_eq!(rt;
-        clauses.clause(5),
-        [Lit::negative(1), Lit::negative(2), Lit::positive(4)].as_slice()
-    );
+// The literal that says that variables 1 and 2 are both true, and their sum.
+fn sum_of_two(alloc: Global) -> Result<(Lit, Vec<i64>), NoMemory> {
+    let mut clauses = ClauseList::new(alloc);
+    let left = leaf(alloc, clauses.fresh().var)?;
+    let right = leaf(alloc, clauses.fresh().var)?;
+    let sum = plus(alloc, &mut clauses, &left, &right)?;
+    Ok((sum.at_least(2), counted(alloc, &sum, &clauses)?))
 }
+
+// The total of variables 1 and 2.
+fn total_of_two(alloc: Global) -> Result<Vec<i64>, NoMemory> {
+    let mut clauses = ClauseList::new(alloc);
+    let vars = [clauses.fresh().var, clauses.fresh().var];
+    let parts = leaves(alloc, &vars)?;
+    let sum = total(alloc, &mut clauses, &parts)?;
+    counted(alloc, &sum, &clauses)
+}
+
+// The total of variable 1 given twice.
+fn total_of_one_twice(alloc: Global) -> Result<Vec<i64>, NoMemory> {
+    let mut clauses = ClauseList::new(alloc);
+    let part = leaf(alloc, clauses.fresh().var)?;
+    let parts = [part.copy()?, part];
+    let sum = total(alloc, &mut clauses, &parts)?;
+    counted(alloc, &sum, &clauses)
+}
+
+// Whether variable 1 or 2 is true.
+fn either_of_two(alloc: Global) -> Result<Vec<i64>, NoMemory> {
+    let mut clauses = ClauseList::new(alloc);
+    let vars = [clauses.fresh().var, clauses.fresh().var];
+    let some = either(alloc, &mut clauses, &vars)?;
+    counted(alloc, &some, &clauses)
+}
+
+const SUM: [i64; 22] = [
+    3, 4, 0, 1, 2, -3, 0, -2, 3, 0, 1, -4, 0, -1, 3, 0, 2, -4, 0, -1, -2, 4,
+];
 
 #[test]
 fn a_sum_of_two_has_six_clauses(rt: HostRuntime) -> Result<(), Fail> {
-    let mut clauses = ClauseList::new(rt.alloc());
-    let first = clauses.fresh();
-    let second = clauses.fresh();
-    let left = leaf(rt.alloc(), first.var)?;
-    let right = leaf(rt.alloc(), second.var)?;
-    let sum = plus(rt.alloc(), &mut clauses, &left, &right)?;
-    assert_sum_of_two(&rt, &clauses, &sum);
-    assert_eq!(rt; sum.at_least(2), Lit::positive(4));
-
-    let mut clauses = ClauseList::new(rt.alloc());
-    let first = clauses.fresh();
-    let second = clauses.fresh();
-    let parts = leaves(rt.alloc(), &[first.var, second.var])?;
-    let sum = total(rt.alloc(), &mut clauses, &parts)?;
-    assert_sum_of_two(&rt, &clauses, &sum);
-    assert_eq!(rt; sum.into_outputs().as_slice(), [3, 4].as_slice());
+    let alloc = rt.alloc();
+    let (both, sum) = sum_of_two(alloc)?;
+    assert_eq!(rt; both, Lit::positive(4));
+    assert_eq!(rt; sum.as_slice(), SUM.as_slice());
+    let total = total_of_two(alloc)?;
+    assert_eq!(rt; total.as_slice(), SUM.as_slice());
     Ok(())
 }
+
+const TWICE: [i64; 20] = [
+    2, 3, 0, 1, -2, 0, -1, 2, 0, 1, -3, 0, -1, 2, 0, 1, -3, 0, -1, 3,
+];
 
 #[test]
 fn a_part_given_twice_counts_twice(rt: HostRuntime) -> Result<(), Fail> {
-    let mut clauses = ClauseList::new(rt.alloc());
-    let only = clauses.fresh();
-    let part = leaf(rt.alloc(), only.var)?;
-    let parts = [part.copy()?, part];
-    let sum = total(rt.alloc(), &mut clauses, &parts)?;
-    assert_eq!(rt; sum.outputs(), [2, 3].as_slice());
-    assert_eq!(rt; clauses.len(), 6);
-    assert_eq!(rt;
-        clauses.clause(0),
-        [Lit::positive(1), Lit::negative(2)].as_slice()
-    );
-    assert_eq!(rt;
-        clauses.clause(1),
-        [Lit::negative(1), Lit::positive(2)].as_slice()
-    );
-    assert_eq!(rt;
-        clauses.clause(2),
-        [Lit::positive(1), Lit::negative(3)].as_slice()
-    );
-    assert_eq!(rt;
-        clauses.clause(3),
-        [Lit::negative(1), Lit::positive(2)].as_slice()
-    );
-    assert_eq!(rt;
-        clauses.clause(4),
-        [Lit::positive(1), Lit::negative(3)].as_slice()
-    );
-    assert_eq!(rt;
-        clauses.clause(5),
-        [Lit::negative(1), Lit::positive(3)].as_slice()
-    );
+    let twice = total_of_one_twice(rt.alloc())?;
+    assert_eq!(rt; twice.as_slice(), TWICE.as_slice());
     Ok(())
 }
 
+const EITHER: [i64; 11] = [3, 0, -1, 3, 0, -2, 3, 0, 1, 2, -3];
+
 #[test]
 fn either_of_two_has_three_clauses(rt: HostRuntime) -> Result<(), Fail> {
-    let mut clauses = ClauseList::new(rt.alloc());
-    let first = clauses.fresh();
-    let second = clauses.fresh();
-    let some = either(rt.alloc(), &mut clauses, &[first.var, second.var])?;
-    assert_eq!(rt; some.outputs(), [3].as_slice());
-    assert_eq!(rt; some.len(), 1);
-    assert_eq!(rt; clauses.len(), 3);
-    assert_eq!(rt;
-        clauses.clause(0),
-        [Lit::negative(1), Lit::positive(3)].as_slice()
-    );
-    assert_eq!(rt;
-        clauses.clause(1),
-        [Lit::negative(2), Lit::positive(3)].as_slice()
-    );
-    assert_eq!(rt;
-        clauses.clause(2),
-        [Lit::positive(1), Lit::positive(2), Lit::negative(3)].as_slice()
-    );
+    let either = either_of_two(rt.alloc())?;
+    assert_eq!(rt; either.as_slice(), EITHER.as_slice());
     Ok(())
 }

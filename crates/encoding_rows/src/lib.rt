@@ -11,4 +11,6 @@ mod definitions;
 #[cfg(test)]
 mod levels;
 #[cfg(test)]
+mod numbers;
+#[cfg(test)]
 mod tests;

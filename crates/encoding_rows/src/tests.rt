@@ -3,8 +3,9 @@
 ghost use Rattle.std.specs.Prelude.{◌≡◌, [], ◌∷◌, length, true, IfOk};
 ghost use Rattle.clause_store.specs.Lits.{positive_lit};
 
+use crate::numbers::{push_clauses, push_lits, push_outputs};
 use agent_copies::AgentCopy;
-use clause_store::{Assignment, ClauseList, Lit};
+use clause_store::{Assignment, Lit};
 use edge::NoMemory;
 use formulas::Valuation;
 use merge_encoding::{Claim, Frame, assumptions, encode};
@@ -14,35 +15,16 @@ use std::alloc::Global;
 use std::test::Fail;
 use totalizer::Unary;
 
-// Appends literals as numbers, negative where the literal is.
-fn push_numbers(numbers: &mut Vec<i64>, lits: &[Lit]) -> Result<(), NoMemory> {
-    for lit in lits {
-        let number = i64::from(lit.var);
-        numbers.push(if lit.positive { number } else { -number })?;
-    }
-    Ok(())
-}
-
-// The clauses in order, each with 0 at its end.
-fn clause_numbers(alloc: Global, clauses: &ClauseList) -> Result<Vec<i64>, NoMemory> {
-    let mut numbers = Vec::new(alloc);
-    for number in 0..clauses.len() {
-        push_numbers(&mut numbers, clauses.clause(number))?;
-        numbers.push(0)?;
-    }
-    Ok(numbers)
-}
-
-// The frame's parts in order, each with 0 at its end.
+// The frame's parts in order, with 0 before each copy and level.
 fn frame_numbers(alloc: Global, frame: &Frame) -> Result<Vec<i64>, NoMemory> {
     let mut numbers = Vec::new(alloc);
-    push_numbers(&mut numbers, frame.shared.as_slice())?;
-    push_numbers(&mut numbers, &[frame.constraint])?;
-    push_numbers(&mut numbers, frame.asks.as_slice())?;
+    push_lits(&mut numbers, frame.shared.as_slice())?;
+    push_lits(&mut numbers, &[frame.constraint])?;
+    push_lits(&mut numbers, frame.asks.as_slice())?;
     for copy in frame.copies.as_slice() {
         numbers.push(0)?;
-        push_numbers(&mut numbers, copy.own.as_slice())?;
-        push_numbers(&mut numbers, &[copy.root])?;
+        push_lits(&mut numbers, copy.own.as_slice())?;
+        push_lits(&mut numbers, &[copy.root])?;
         push_outputs(&mut numbers, &copy.away)?;
     }
     for level in frame.levels.as_slice() {
@@ -52,22 +34,15 @@ fn frame_numbers(alloc: Global, frame: &Frame) -> Result<Vec<i64>, NoMemory> {
     Ok(numbers)
 }
 
-fn push_outputs(numbers: &mut Vec<i64>, counter: &Unary) -> Result<(), NoMemory> {
-    for output in counter.outputs() {
-        numbers.push(i64::from(*output))?;
-    }
-    Ok(())
-}
-
 // Of an atom a: the constraint !a, an agent p that believes a, and the query !a.
 fn small_problem(alloc: Global) -> Result<Problem, Fail> {
     Ok(read_problem(alloc, b"atoms a\nconstraint !a\nagent p : a\nask !a\n")?)
 }
 
-// Its clauses for Hamming and the sum, each with 0 at its end.
+// Its clauses for Hamming and the sum, with 0 before each.
 const CLAUSES: [i64; 46] = [
-    1, -2, 0, -1, 2, 0, -2, -3, 0, 2, 3, 0, 1, -4, 0, -1, 4, 0, -4, -5, 0, 4, 5, 0, 6, -7, 0, -6,
-    7, 0, 1, 6, -8, 0, -1, -6, -8, 0, -1, 6, 8, 0, 1, -6, 8, 0,
+    0, 1, -2, 0, -1, 2, 0, -2, -3, 0, 2, 3, 0, 1, -4, 0, -1, 4, 0, -4, -5, 0, 4, 5, 0, 6, -7, 0,
+    -6, 7, 0, 1, 6, -8, 0, -1, -6, -8, 0, -1, 6, 8, 0, 1, -6, 8,
 ];
 
 // The numbers of its variables and clauses for Hamming and the maximum, and for drastic and
@@ -87,7 +62,8 @@ fn a_problem_over_one_atom_has_its_clauses(rt: HostRuntime) -> Result<(), Fail> 
     let alloc = rt.alloc();
     let problem = small_problem(alloc)?;
     let main = encode(alloc, &problem, &Hamming, &Sum)?;
-    let clauses = clause_numbers(alloc, &main.clauses)?;
+    let mut clauses = Vec::new(alloc);
+    push_clauses(&mut clauses, &main.clauses)?;
     assert_eq!(rt; clauses.as_slice(), CLAUSES.as_slice());
     let frame = frame_numbers(alloc, &main.frame)?;
     assert_eq!(rt; frame.as_slice(), [1, 3, 5, 0, 6, 7, 8, 0, 8].as_slice());
@@ -133,26 +109,26 @@ fn one_truth(alloc: Global) -> Result<Sequence<bool>, NoMemory>
     Ok(Sequence::from_vec(vec![in alloc; true]?))
 }
 
-// What four claims assume of that frame, each with 0 at its end.
+// What four claims assume of that frame, with 0 between them.
 fn assumed_numbers(alloc: Global) -> Result<Vec<i64>, NoMemory> {
     let frame = small_frame(alloc)?;
     let mut numbers = Vec::new(alloc);
     let model = Valuation::new(0, 1);
     let nearer = assumptions(alloc, &frame, &Claim::NoNearer(0, model, 1))?;
-    push_numbers(&mut numbers, &nearer)?;
+    push_lits(&mut numbers, &nearer)?;
     numbers.push(0)?;
     let values = one_value(alloc)?;
     let better = assumptions(alloc, &frame, &Claim::NoBetter(0, values))?;
-    push_numbers(&mut numbers, &better)?;
+    push_lits(&mut numbers, &better)?;
     numbers.push(0)?;
     let limits = one_value(alloc)?;
     let breaker = assumptions(alloc, &frame, &Claim::NoBreaker(0, limits))?;
-    push_numbers(&mut numbers, &breaker)?;
+    push_lits(&mut numbers, &breaker)?;
     numbers.push(0)?;
     let bounds = one_value(alloc)?;
     let prefix = one_truth(alloc)?;
     let with = assumptions(alloc, &frame, &Claim::NoModelWith(bounds, prefix))?;
-    push_numbers(&mut numbers, &with)?;
+    push_lits(&mut numbers, &with)?;
     Ok(numbers)
 }
 

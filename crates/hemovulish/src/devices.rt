@@ -6,16 +6,37 @@ use std::test::Fail;
 
 const PROBLEM: &[u8] = b"atoms a\nconstraint !a\nagent p : a\nask !a\n";
 
+/// The lines of a report before its log.
+const FRONT: &str = "merge-report 1\n\
+    distance hamming\n\
+    aggregator sum\n\
+    conflicts 100000\n\
+    atoms a\n\
+    constraint !a\n\
+    agent p : a\n\
+    ask !a\n\
+    model 0\n\
+    vector 1\n\
+    nearest 1\n\
+    measure 1\n\
+    verdict 1 yes\n\
+    main 8 14\n";
+
+fn words_of(alloc: Global, line: &str) -> Result<Words, Fail> {
+    let mut words = Words::new(alloc);
+    for word in line.split_whitespace() {
+        words.push(word)?;
+    }
+    Ok(words)
+}
+
 /// The status and how many bytes were sent.
 fn end_of<S: Source, K: Sink>(
     alloc: Global,
     source: &mut S,
     sink: &mut K,
 ) -> Result<(u8, usize), Fail> {
-    let mut words = Words::new(alloc);
-    for word in ["merge", "hamming", "sum"] {
-        words.push(word)?;
-    }
+    let words = words_of(alloc, "merge hamming sum")?;
     let outcome = run(alloc, &words, source, sink);
     Ok((outcome.status, outcome.sent))
 }
@@ -87,5 +108,27 @@ fn a_failed_write_comes_after_those_before_it(rt: HostRuntime) -> Result<(), Fai
     }
     let end = end_with_failing_write(alloc, 10_000)?;
     assert_eq!(rt; end, (status::ANSWERED, whole));
+    Ok(())
+}
+
+/// What `check` answers to a report of which the third read of 30 bytes fails.
+fn check_of_two_reads(alloc: Global, report: &str) -> Result<(u8, Vec<u8>), Fail> {
+    let words = words_of(alloc, "check")?;
+    let bytes = Vec::from_slice(alloc, report.as_bytes())?;
+    let mut source = MemorySource::new(bytes, 30, 3);
+    let outcome = run(alloc, &words, &mut source, &mut NullSink::new());
+    Ok((outcome.status, outcome.text))
+}
+
+#[test]
+fn a_wrong_line_is_refused_before_a_later_read_fails(rt: HostRuntime) -> Result<(), Fail> {
+    let alloc = rt.alloc();
+    let other = "merge-report 9\ndistance hamming\naggregator sum\nconflicts 100000\natoms a\n";
+    let (refused, text) = check_of_two_reads(alloc, other)?;
+    assert_eq!(rt; refused, status::REFUSED_REPORT);
+    assert_eq!(rt; text.as_slice(), b"refused line 1: form\n".as_slice());
+    let (failed, text) = check_of_two_reads(alloc, FRONT)?;
+    assert_eq!(rt; failed, status::READ_FAULT);
+    assert!(rt; text.is_empty());
     Ok(())
 }

@@ -3,8 +3,6 @@
 
 #[cfg(test)]
 mod devices;
-#[cfg(test)]
-mod tests;
 
 use edge::{NoMemory, StdSink, StdSource, Words};
 use merge_cli::{run, status};

@@ -1,43 +1,65 @@
-// Questions to a search by any distance and any aggregator. Each answers `None` where the search
-// stops.
+// One question to a search about the problem that a text spells, by any distance and any
+// aggregator, with more steps than any of them learns. Each answers `None` where the search stops.
 ghost use Rattle.std.specs.Prelude.{◌≡◌, ◌<◌, ◌≤◌, IsTrue, IfSome};
 ghost use Rattle.distance_search.specs.Results.{IsConsistent, IsBestFor};
 
 use agent_copies::Counted;
 use aggregators::Levelled;
-use distance_search::{Away, Best, Consistency, Entails, Named, Questions, Search, Subject};
+use distance_search::{Away, Best, Consistency, Entails, Questions, Search, SearchStop, Subject};
 use edge::NoMemory;
 use formulas::Valuation;
 use merge_model::Problem;
 use problem_reading::read_problem;
 use std::alloc::Global;
 
-/// The problem that a text spells.
-pub fn problem_of(alloc: Global, text: &str) -> Result<Problem, NoMemory> {
+/// More steps than any question here learns.
+const AMPLE: u64 = 100_000;
+
+fn problem_of(alloc: Global, text: &str) -> Result<Problem, NoMemory> {
     match read_problem(alloc, text.as_bytes()) {
         Ok(problem) => Ok(problem),
         Err(_) => Err(NoMemory),
     }
 }
 
-/// A search about the problem that a text spells.
-pub fn search_about<D: Counted + Drop, A: Levelled + Drop>(
+fn search_about<D: Counted + Drop, A: Levelled + Drop>(
     alloc: Global,
     text: &str,
     distance: D,
     aggregator: A,
     budget: u64,
-) -> Result<Search<D, A>, NoMemory>
+) -> Option<Search<D, A>>
     requires { 1 ≤ budget }
 {
-    let problem = problem_of(alloc, text)?;
-    Search::new(alloc, problem, distance, aggregator, budget)
+    let problem = problem_of(alloc, text).ok()?;
+    Search::new(alloc, problem, distance, aggregator, budget).ok()
+}
+
+/// Whether the search's log has a step of this number.
+fn has_step<D: Counted + Drop, A: Levelled + Drop>(search: &Search<D, A>, step: u64) -> bool {
+    let log = search.derivations();
+    log.main_len() <= step && step < log.known().len()
+}
+
+/// Whether each number that is there is of a step of the search's log.
+fn has_steps<D: Counted + Drop, A: Levelled + Drop>(
+    search: &Search<D, A>,
+    steps: &[Option<u64>],
+) -> bool {
+    steps
+        .iter()
+        .flatten()
+        .all(|step| has_step(search, *step))
 }
 
 /// Which formulas have models.
-pub fn consistency_of<D: Counted + Drop, A: Levelled + Drop>(
-    search: &mut Search<D, A>,
+pub fn consistency_about<D: Counted + Drop, A: Levelled + Drop>(
+    alloc: Global,
+    text: &str,
+    distance: D,
+    aggregator: A,
 ) -> Option<Consistency> {
+    let mut search = search_about(alloc, text, distance, aggregator, AMPLE)?;
     search.consistency().ok()
 }
 
@@ -54,12 +76,28 @@ fn has_models<D: Counted + Drop, A: Levelled + Drop>(search: &mut Search<D, A>) 
 }
 
 /// A best answer, where the constraint and each base have a model.
-pub fn best_of<D: Counted + Drop, A: Levelled + Drop>(search: &mut Search<D, A>) -> Option<Best>
+fn best_of<D: Counted + Drop, A: Levelled + Drop>(search: &mut Search<D, A>) -> Option<Best>
     ensures { IfSome result
         (IsBestFor (⟦<Subject<D, A> as Questions>⟧.setting search.new.subject)) }
 {
     if has_models(search) {
         search.best().ok()
+    } else {
+        None
+    }
+}
+
+/// A best answer, each of whose steps stands in the search's log.
+pub fn best_about<D: Counted + Drop, A: Levelled + Drop>(
+    alloc: Global,
+    text: &str,
+    distance: D,
+    aggregator: A,
+) -> Option<Best> {
+    let mut search = search_about(alloc, text, distance, aggregator, AMPLE)?;
+    let best = best_of(&mut search)?;
+    if has_steps(&search, best.far.as_slice()) && has_steps(&search, best.least.as_slice()) {
+        Some(best)
     } else {
         None
     }
@@ -71,7 +109,6 @@ fn verdict_by<D: Counted + Drop, A: Levelled + Drop>(
     best: &Best,
 ) -> Option<Entails>
     requires { IsBestFor (⟦<Subject<D, A> as Questions>⟧.setting search.old.subject) best.now }
-    ensures { IsBestFor (⟦<Subject<D, A> as Questions>⟧.setting search.new.subject) best.now }
 {
     if search.problem().asks.is_empty() {
         None
@@ -80,12 +117,19 @@ fn verdict_by<D: Counted + Drop, A: Levelled + Drop>(
     }
 }
 
-/// The verdict on the first query.
-pub fn first_verdict<D: Counted + Drop, A: Levelled + Drop>(
-    search: &mut Search<D, A>,
-) -> Option<Entails> {
-    let best = best_of(search)?;
-    verdict_by(search, &best)
+/// Whether a step of the search's log shows that the first query is entailed.
+pub fn is_yes_about<D: Counted + Drop, A: Levelled + Drop>(
+    alloc: Global,
+    text: &str,
+    distance: D,
+    aggregator: A,
+) -> Option<bool> {
+    let mut search = search_about(alloc, text, distance, aggregator, AMPLE)?;
+    let best = best_of(&mut search)?;
+    match verdict_by(&mut search, &best)? {
+        Entails::Yes(step) => Some(has_step(&search, step)),
+        Entails::No(_) => Some(false),
+    }
 }
 
 /// A closest model that begins with these values, by a best answer.
@@ -104,53 +148,50 @@ fn closest_by<D: Counted + Drop, A: Levelled + Drop>(
 }
 
 /// A closest model that begins with these values.
-pub fn closest_beginning_with<D: Counted + Drop, A: Levelled + Drop>(
-    search: &mut Search<D, A>,
+pub fn closest_about<D: Counted + Drop, A: Levelled + Drop>(
+    alloc: Global,
+    text: &str,
+    distance: D,
+    aggregator: A,
     prefix: &[bool],
 ) -> Option<Option<Valuation>> {
-    let best = best_of(search)?;
-    closest_by(search, &best, prefix)
+    let mut search = search_about(alloc, text, distance, aggregator, AMPLE)?;
+    let best = best_of(&mut search)?;
+    closest_by(&mut search, &best, prefix)
 }
 
-/// The distances of the valuation of two atoms that `bits` stands for, where the constraint and
-/// each base have a model.
-pub fn distances_over_two<D: Counted + Drop, A: Levelled + Drop>(
-    search: &mut Search<D, A>,
+/// The distances of the valuation of two atoms that `bits` stands for, each of whose steps stands
+/// in the search's log.
+pub fn distances_about<D: Counted + Drop, A: Levelled + Drop>(
+    alloc: Global,
+    text: &str,
+    distance: D,
+    aggregator: A,
     bits: u64,
 ) -> Option<Away>
     requires { bits < 4 }
 {
-    if search.problem().atoms.len() == 2 && has_models(search) {
-        search.distances_of(Valuation::new(bits, 2)).ok()
+    let mut search = search_about(alloc, text, distance, aggregator, AMPLE)?;
+    if search.problem().atoms.len() != 2 || !has_models(&mut search) {
+        return None;
+    }
+    let away = search.distances_of(Valuation::new(bits, 2)).ok()?;
+    if has_steps(&search, away.far.as_slice()) {
+        Some(away)
     } else {
         None
     }
 }
 
-/// Whether a formula is named by this model.
-pub fn is_named(named: &Named, model: Valuation) -> bool {
-    match named {
-        Named::Model(found) => *found == model,
-        Named::Empty(_) => false,
-    }
-}
-
-/// Whether the search's log has a step of this number.
-pub fn has_step<D: Counted + Drop, A: Levelled + Drop>(search: &Search<D, A>, step: u64) -> bool {
-    let log = search.derivations();
-    log.main_len() <= step && step < log.known().len()
-}
-
-/// Whether each number is of a step of the search's log.
-pub fn has_steps<D: Counted + Drop, A: Levelled + Drop>(
-    search: &Search<D, A>,
-    steps: &[Option<u64>],
-) -> bool {
-    for step in steps {
-        match step {
-            Some(step) if has_step(search, *step) => {}
-            _ => return false,
-        }
-    }
-    true
+/// Where a first question that may learn one step stops, and the number of clauses known then.
+pub fn stop_after_one_step<D: Counted + Drop, A: Levelled + Drop>(
+    alloc: Global,
+    text: &str,
+    distance: D,
+    aggregator: A,
+) -> Option<(SearchStop, u64)> {
+    let mut search = search_about(alloc, text, distance, aggregator, 1)?;
+    let stop = search.consistency().err()?;
+    let (_problem, log) = search.into_parts();
+    Some((stop, log.known().len()))
 }

@@ -1,0 +1,40 @@
+// Literals and clauses as numbers.
+
+use clause_store::{ClauseList, Lit};
+use edge::NoMemory;
+use std::alloc::Global;
+use totalizer::Unary;
+
+/// Appends literals as numbers, negative where the literal is.
+pub fn push_lits(numbers: &mut Vec<i64>, lits: &[Lit]) -> Result<(), NoMemory> {
+    for lit in lits {
+        let number = i64::from(lit.var);
+        numbers.push(if lit.positive { number } else { -number })?;
+    }
+    Ok(())
+}
+
+/// Appends the outputs of a counter.
+pub fn push_outputs(numbers: &mut Vec<i64>, counter: &Unary) -> Result<(), NoMemory> {
+    for output in counter.outputs() {
+        numbers.push(i64::from(*output))?;
+    }
+    Ok(())
+}
+
+/// Appends the clauses in order, with 0 before each.
+pub fn push_clauses(numbers: &mut Vec<i64>, clauses: &ClauseList) -> Result<(), NoMemory> {
+    for number in 0..clauses.len() {
+        numbers.push(0)?;
+        push_lits(numbers, clauses.clause(number))?;
+    }
+    Ok(())
+}
+
+/// The outputs of a counter and then the clauses, with 0 before each.
+pub fn counted(alloc: Global, counter: &Unary, clauses: &ClauseList) -> Result<Vec<i64>, NoMemory> {
+    let mut numbers = Vec::new(alloc);
+    push_outputs(&mut numbers, counter)?;
+    push_clauses(&mut numbers, clauses)?;
+    Ok(numbers)
+}
