@@ -1,6 +1,6 @@
 // The copies of an agent over one atom.
 
-use crate::numbers::{push_clauses, push_lits, push_outputs};
+use crate::numbers::{push_clauses, push_copy};
 use agent_copies::{Counted, copy_agent};
 use clause_store::ClauseList;
 use edge::NoMemory;
@@ -15,9 +15,7 @@ fn copied<D: Counted>(alloc: Global, distance: &D) -> Result<Vec<i64>, NoMemory>
     let shared = [clauses.fresh()];
     let copy = copy_agent(alloc, &mut clauses, &shared, &Formula::Atom(0), distance)?;
     let mut numbers = Vec::new(alloc);
-    push_lits(&mut numbers, copy.own.as_slice())?;
-    push_lits(&mut numbers, &[copy.root])?;
-    push_outputs(&mut numbers, &copy.away)?;
+    push_copy(&mut numbers, &copy)?;
     push_clauses(&mut numbers, &clauses)?;
     Ok(numbers)
 }

@@ -1,15 +1,21 @@
 // Literals and clauses as numbers.
 
+use agent_copies::AgentCopy;
 use clause_store::{ClauseList, Lit};
 use edge::NoMemory;
 use std::alloc::Global;
 use totalizer::Unary;
 
-/// Appends literals as numbers, negative where the literal is.
+/// A literal as a number, negative where the literal is.
+pub fn lit_number(lit: Lit) -> i64 {
+    let number = i64::from(lit.var);
+    if lit.positive { number } else { -number }
+}
+
+/// Appends literals as numbers.
 pub fn push_lits(numbers: &mut Vec<i64>, lits: &[Lit]) -> Result<(), NoMemory> {
     for lit in lits {
-        let number = i64::from(lit.var);
-        numbers.push(if lit.positive { number } else { -number })?;
+        numbers.push(lit_number(*lit))?;
     }
     Ok(())
 }
@@ -20,6 +26,13 @@ pub fn push_outputs(numbers: &mut Vec<i64>, counter: &Unary) -> Result<(), NoMem
         numbers.push(i64::from(*output))?;
     }
     Ok(())
+}
+
+/// Appends the own literals of an agent's copy, its root and the outputs of its distance.
+pub fn push_copy(numbers: &mut Vec<i64>, copy: &AgentCopy) -> Result<(), NoMemory> {
+    push_lits(numbers, copy.own.as_slice())?;
+    push_lits(numbers, &[copy.root])?;
+    push_outputs(numbers, &copy.away)
 }
 
 /// Appends the clauses in order, with 0 before each.

@@ -3,35 +3,33 @@
 ghost use Rattle.std.specs.Prelude.{◌≡◌, [], ◌∷◌, length, true, IfOk};
 ghost use Rattle.clause_store.specs.Lits.{positive_lit};
 
-use crate::numbers::{push_clauses, push_lits, push_outputs};
-use agent_copies::AgentCopy;
+use crate::numbers::{lit_number, push_clauses, push_copy, push_lits, push_outputs};
+use agent_copies::{AgentCopy, Counted};
+use aggregators::Levelled;
 use clause_store::{Assignment, Lit};
 use edge::NoMemory;
 use formulas::Valuation;
-use merge_encoding::{Claim, Frame, assumptions, encode};
+use merge_encoding::{Claim, Frame, Main, assumptions, encode};
 use merge_model::{Drastic, Hamming, Leximax, Max, Problem, Sequence, Sum};
 use problem_reading::read_problem;
 use std::alloc::Global;
 use std::test::Fail;
 use totalizer::Unary;
 
-// The frame's parts in order, with 0 before each copy and level.
-fn frame_numbers(alloc: Global, frame: &Frame) -> Result<Vec<i64>, NoMemory> {
-    let mut numbers = Vec::new(alloc);
-    push_lits(&mut numbers, frame.shared.as_slice())?;
-    push_lits(&mut numbers, &[frame.constraint])?;
-    push_lits(&mut numbers, frame.asks.as_slice())?;
+// Appends the frame's parts in order, with 0 before each copy and level.
+fn push_frame(numbers: &mut Vec<i64>, frame: &Frame) -> Result<(), NoMemory> {
+    push_lits(numbers, frame.shared.as_slice())?;
+    push_lits(numbers, &[frame.constraint])?;
+    push_lits(numbers, frame.asks.as_slice())?;
     for copy in frame.copies.as_slice() {
         numbers.push(0)?;
-        push_lits(&mut numbers, copy.own.as_slice())?;
-        push_lits(&mut numbers, &[copy.root])?;
-        push_outputs(&mut numbers, &copy.away)?;
+        push_copy(numbers, copy)?;
     }
     for level in frame.levels.as_slice() {
         numbers.push(0)?;
-        push_outputs(&mut numbers, level)?;
+        push_outputs(numbers, level)?;
     }
-    Ok(numbers)
+    Ok(())
 }
 
 // Of an atom a: the constraint !a, an agent p that believes a, and the query !a.
@@ -39,36 +37,54 @@ fn small_problem(alloc: Global) -> Result<Problem, Fail> {
     Ok(read_problem(alloc, b"atoms a\nconstraint !a\nagent p : a\nask !a\n")?)
 }
 
-// Its clauses for Hamming and the sum, with 0 before each.
-const CLAUSES: [i64; 46] = [
+// For Hamming and the sum: the frame's parts, and then the clauses, with 0 before each.
+const NUMBERS: [i64; 55] = [
+    1, 3, 5, 0, 6, 7, 8, 0, 8, //
     0, 1, -2, 0, -1, 2, 0, -2, -3, 0, 2, 3, 0, 1, -4, 0, -1, 4, 0, -4, -5, 0, 4, 5, 0, 6, -7, 0,
     -6, 7, 0, 1, 6, -8, 0, -1, -6, -8, 0, -1, 6, 8, 0, 1, -6, 8,
 ];
 
-// The numbers of its variables and clauses for Hamming and the maximum, and for drastic and
-// leximax.
-fn sizes_of_others(alloc: Global) -> Result<[(u32, u64); 2], Fail> {
+// Its main clauses by any distance and any aggregator.
+fn small_main<D: Counted, A: Levelled>(
+    alloc: Global,
+    distance: &D,
+    aggregator: &A,
+) -> Result<Main, Fail> {
     let problem = small_problem(alloc)?;
-    let most = encode(alloc, &problem, &Hamming, &Max)?;
-    let sorted = encode(alloc, &problem, &Drastic, &Leximax)?;
-    Ok([
-        (most.clauses.vars(), most.clauses.len()),
-        (sorted.clauses.vars(), sorted.clauses.len()),
-    ])
+    Ok(encode(alloc, &problem, distance, aggregator)?)
+}
+
+// The numbers of their variables and clauses.
+fn sizes<D: Counted, A: Levelled>(
+    alloc: Global,
+    distance: &D,
+    aggregator: &A,
+) -> Result<(u32, u64), Fail> {
+    let main = small_main(alloc, distance, aggregator)?;
+    Ok((main.clauses.vars(), main.clauses.len()))
+}
+
+// The parts of their frame and then they themselves, with 0 before each.
+fn main_numbers(alloc: Global, main: &Main) -> Result<Vec<i64>, NoMemory> {
+    let mut numbers = Vec::new(alloc);
+    push_frame(&mut numbers, &main.frame)?;
+    push_clauses(&mut numbers, &main.clauses)?;
+    Ok(numbers)
+}
+
+// Those for Hamming and the sum.
+fn small_numbers(alloc: Global) -> Result<Vec<i64>, Fail> {
+    let main = small_main(alloc, &Hamming, &Sum)?;
+    Ok(main_numbers(alloc, &main)?)
 }
 
 #[test]
 fn a_problem_over_one_atom_has_its_clauses(rt: HostRuntime) -> Result<(), Fail> {
     let alloc = rt.alloc();
-    let problem = small_problem(alloc)?;
-    let main = encode(alloc, &problem, &Hamming, &Sum)?;
-    let mut clauses = Vec::new(alloc);
-    push_clauses(&mut clauses, &main.clauses)?;
-    assert_eq!(rt; clauses.as_slice(), CLAUSES.as_slice());
-    let frame = frame_numbers(alloc, &main.frame)?;
-    assert_eq!(rt; frame.as_slice(), [1, 3, 5, 0, 6, 7, 8, 0, 8].as_slice());
-    assert_eq!(rt; main.clauses.vars(), 8);
-    assert_eq!(rt; sizes_of_others(alloc)?, [(9, 16), (9, 16)]);
+    let numbers = small_numbers(alloc)?;
+    assert_eq!(rt; numbers.as_slice(), NUMBERS.as_slice());
+    assert_eq!(rt; sizes(alloc, &Hamming, &Max)?, (9, 16));
+    assert_eq!(rt; sizes(alloc, &Drastic, &Leximax)?, (9, 16));
     Ok(())
 }
 
@@ -109,35 +125,50 @@ fn one_truth(alloc: Global) -> Result<Sequence<bool>, NoMemory>
     Ok(Sequence::from_vec(vec![in alloc; true]?))
 }
 
-// What four claims assume of that frame, with 0 between them.
-fn assumed_numbers(alloc: Global) -> Result<Vec<i64>, NoMemory> {
+// What the claim that no model is nearer to the agent assumes of that frame.
+fn nearer(alloc: Global) -> Result<Vec<Lit>, NoMemory> {
     let frame = small_frame(alloc)?;
-    let mut numbers = Vec::new(alloc);
-    let model = Valuation::new(0, 1);
-    let nearer = assumptions(alloc, &frame, &Claim::NoNearer(0, model, 1))?;
-    push_lits(&mut numbers, &nearer)?;
-    numbers.push(0)?;
+    assumptions(alloc, &frame, &Claim::NoNearer(0, Valuation::new(0, 1), 1))
+}
+
+// What the claim that no level value is less than 1 assumes of it.
+fn better(alloc: Global) -> Result<Vec<Lit>, NoMemory> {
     let values = one_value(alloc)?;
-    let better = assumptions(alloc, &frame, &Claim::NoBetter(0, values))?;
-    push_lits(&mut numbers, &better)?;
-    numbers.push(0)?;
+    let frame = small_frame(alloc)?;
+    assumptions(alloc, &frame, &Claim::NoBetter(0, values))
+}
+
+// What the claim that no model at 1 breaks the query assumes of it.
+fn breaker(alloc: Global) -> Result<Vec<Lit>, NoMemory> {
     let limits = one_value(alloc)?;
-    let breaker = assumptions(alloc, &frame, &Claim::NoBreaker(0, limits))?;
-    push_lits(&mut numbers, &breaker)?;
-    numbers.push(0)?;
+    let frame = small_frame(alloc)?;
+    assumptions(alloc, &frame, &Claim::NoBreaker(0, limits))
+}
+
+// What the claim that no model at 1 makes the atom true assumes of it.
+fn model_with(alloc: Global) -> Result<Vec<Lit>, NoMemory> {
     let bounds = one_value(alloc)?;
     let prefix = one_truth(alloc)?;
-    let with = assumptions(alloc, &frame, &Claim::NoModelWith(bounds, prefix))?;
-    push_lits(&mut numbers, &with)?;
-    Ok(numbers)
+    let frame = small_frame(alloc)?;
+    assumptions(alloc, &frame, &Claim::NoModelWith(bounds, prefix))
+}
+
+// Whether literals are these.
+fn are_numbers(lits: &[Lit], numbers: &[i64]) -> bool {
+    lits.len() == numbers.len()
+        && lits
+            .iter()
+            .zip(numbers)
+            .all(|(lit, number)| lit_number(*lit) == *number)
 }
 
 #[test]
 fn claims_assume_literals_of_the_frame(rt: HostRuntime) -> Result<(), Fail> {
-    assert_eq!(rt;
-        assumed_numbers(rt.alloc())?.as_slice(),
-        [-1, 7, -8, 0, 3, 7, -8, 0, 3, 7, -5, 0, 3, 7, 1].as_slice()
-    );
+    let alloc = rt.alloc();
+    assert!(rt; are_numbers(nearer(alloc)?.as_slice(), &[-1, 7, -8]));
+    assert!(rt; are_numbers(better(alloc)?.as_slice(), &[3, 7, -8]));
+    assert!(rt; are_numbers(breaker(alloc)?.as_slice(), &[3, 7, -5]));
+    assert!(rt; are_numbers(model_with(alloc)?.as_slice(), &[3, 7, 1]));
     Ok(())
 }
 
@@ -151,21 +182,27 @@ fn assignment_of_it(alloc: Global) -> Result<Assignment, NoMemory>
     Ok(assignment)
 }
 
-// What that assignment says: the shared valuation, the agent's own one and the level values.
-fn read_of_it(alloc: Global) -> Result<(Valuation, Valuation, Vec<u32>), NoMemory> {
-    let frame = small_frame(alloc)?;
+// The shared valuation and the agent's own one by that assignment.
+fn valuations_of_it(alloc: Global) -> Result<(Valuation, Valuation), NoMemory> {
     let assignment = assignment_of_it(alloc)?;
-    let shared = frame.shared_valuation(&assignment);
+    let frame = small_frame(alloc)?;
     let own = frame.own_valuation(&assignment, 0);
-    let values = frame.level_values(alloc, &assignment)?;
-    Ok((shared, own, values))
+    Ok((frame.shared_valuation(&assignment), own))
+}
+
+// The level values by that assignment.
+fn values_of_it(alloc: Global) -> Result<Vec<u32>, NoMemory> {
+    let assignment = assignment_of_it(alloc)?;
+    let frame = small_frame(alloc)?;
+    frame.level_values(alloc, &assignment)
 }
 
 #[test]
 fn an_assignment_is_read_through_the_frame(rt: HostRuntime) -> Result<(), Fail> {
-    let (shared, own, values) = read_of_it(rt.alloc())?;
+    let (shared, own) = valuations_of_it(rt.alloc())?;
     assert_eq!(rt; shared, Valuation::new(0, 1));
     assert_eq!(rt; own, Valuation::new(1, 1));
+    let values = values_of_it(rt.alloc())?;
     assert_eq!(rt; values.as_slice(), [1].as_slice());
     Ok(())
 }

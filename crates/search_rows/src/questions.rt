@@ -46,10 +46,7 @@ fn has_steps<D: Counted + Drop, A: Levelled + Drop>(
     search: &Search<D, A>,
     steps: &[Option<u64>],
 ) -> bool {
-    steps
-        .iter()
-        .flatten()
-        .all(|step| has_step(search, *step))
+    steps.iter().flatten().all(|step| has_step(search, *step))
 }
 
 /// Which formulas have models.
@@ -87,6 +84,15 @@ fn best_of<D: Counted + Drop, A: Levelled + Drop>(search: &mut Search<D, A>) -> 
     }
 }
 
+fn noted_best<D: Counted + Drop, A: Levelled + Drop>(search: &mut Search<D, A>) -> Option<Best> {
+    let best = best_of(search)?;
+    if has_steps(search, best.far.as_slice()) && has_steps(search, best.least.as_slice()) {
+        Some(best)
+    } else {
+        None
+    }
+}
+
 /// A best answer, each of whose steps stands in the search's log.
 pub fn best_about<D: Counted + Drop, A: Levelled + Drop>(
     alloc: Global,
@@ -95,12 +101,7 @@ pub fn best_about<D: Counted + Drop, A: Levelled + Drop>(
     aggregator: A,
 ) -> Option<Best> {
     let mut search = search_about(alloc, text, distance, aggregator, AMPLE)?;
-    let best = best_of(&mut search)?;
-    if has_steps(&search, best.far.as_slice()) && has_steps(&search, best.least.as_slice()) {
-        Some(best)
-    } else {
-        None
-    }
+    noted_best(&mut search)
 }
 
 /// The verdict on the first query, by a best answer.
@@ -117,6 +118,14 @@ fn verdict_by<D: Counted + Drop, A: Levelled + Drop>(
     }
 }
 
+fn is_noted_yes<D: Counted + Drop, A: Levelled + Drop>(search: &mut Search<D, A>) -> Option<bool> {
+    let best = best_of(search)?;
+    match verdict_by(search, &best)? {
+        Entails::Yes(step) => Some(has_step(search, step)),
+        Entails::No(_) => Some(false),
+    }
+}
+
 /// Whether a step of the search's log shows that the first query is entailed.
 pub fn is_yes_about<D: Counted + Drop, A: Levelled + Drop>(
     alloc: Global,
@@ -125,11 +134,7 @@ pub fn is_yes_about<D: Counted + Drop, A: Levelled + Drop>(
     aggregator: A,
 ) -> Option<bool> {
     let mut search = search_about(alloc, text, distance, aggregator, AMPLE)?;
-    let best = best_of(&mut search)?;
-    match verdict_by(&mut search, &best)? {
-        Entails::Yes(step) => Some(has_step(&search, step)),
-        Entails::No(_) => Some(false),
-    }
+    is_noted_yes(&mut search)
 }
 
 /// A closest model that begins with these values, by a best answer.
@@ -147,6 +152,14 @@ fn closest_by<D: Counted + Drop, A: Levelled + Drop>(
     }
 }
 
+fn closest_with<D: Counted + Drop, A: Levelled + Drop>(
+    search: &mut Search<D, A>,
+    prefix: &[bool],
+) -> Option<Option<Valuation>> {
+    let best = best_of(search)?;
+    closest_by(search, &best, prefix)
+}
+
 /// A closest model that begins with these values.
 pub fn closest_about<D: Counted + Drop, A: Levelled + Drop>(
     alloc: Global,
@@ -156,8 +169,24 @@ pub fn closest_about<D: Counted + Drop, A: Levelled + Drop>(
     prefix: &[bool],
 ) -> Option<Option<Valuation>> {
     let mut search = search_about(alloc, text, distance, aggregator, AMPLE)?;
-    let best = best_of(&mut search)?;
-    closest_by(&mut search, &best, prefix)
+    closest_with(&mut search, prefix)
+}
+
+fn noted_distances<D: Counted + Drop, A: Levelled + Drop>(
+    search: &mut Search<D, A>,
+    bits: u64,
+) -> Option<Away>
+    requires { bits < 4 }
+{
+    if search.problem().atoms.len() != 2 || !has_models(search) {
+        return None;
+    }
+    let away = search.distances_of(Valuation::new(bits, 2)).ok()?;
+    if has_steps(search, away.far.as_slice()) {
+        Some(away)
+    } else {
+        None
+    }
 }
 
 /// The distances of the valuation of two atoms that `bits` stands for, each of whose steps stands
@@ -172,15 +201,7 @@ pub fn distances_about<D: Counted + Drop, A: Levelled + Drop>(
     requires { bits < 4 }
 {
     let mut search = search_about(alloc, text, distance, aggregator, AMPLE)?;
-    if search.problem().atoms.len() != 2 || !has_models(&mut search) {
-        return None;
-    }
-    let away = search.distances_of(Valuation::new(bits, 2)).ok()?;
-    if has_steps(&search, away.far.as_slice()) {
-        Some(away)
-    } else {
-        None
-    }
+    noted_distances(&mut search, bits)
 }
 
 /// Where a first question that may learn one step stops, and the number of clauses known then.
@@ -191,7 +212,7 @@ pub fn stop_after_one_step<D: Counted + Drop, A: Levelled + Drop>(
     aggregator: A,
 ) -> Option<(SearchStop, u64)> {
     let mut search = search_about(alloc, text, distance, aggregator, 1)?;
-    let stop = search.consistency().err()?;
+    let stop = search.consistency().err();
     let (_problem, log) = search.into_parts();
-    Some((stop, log.known().len()))
+    Some((stop?, log.known().len()))
 }
