@@ -6,21 +6,12 @@ ghost use Rattle.distance_search.specs.Results.{IsConsistent, IsBestFor};
 use agent_copies::Counted;
 use aggregators::Levelled;
 use distance_search::{Away, Best, Consistency, Entails, Questions, Search, SearchStop, Subject};
-use edge::NoMemory;
 use formulas::Valuation;
-use merge_model::Problem;
 use problem_reading::read_problem;
 use std::alloc::Global;
 
 /// More steps than any question here learns.
 const AMPLE: u64 = 100_000;
-
-fn problem_of(alloc: Global, text: &str) -> Result<Problem, NoMemory> {
-    match read_problem(alloc, text.as_bytes()) {
-        Ok(problem) => Ok(problem),
-        Err(_) => Err(NoMemory),
-    }
-}
 
 fn search_about<D: Counted + Drop, A: Levelled + Drop>(
     alloc: Global,
@@ -31,7 +22,7 @@ fn search_about<D: Counted + Drop, A: Levelled + Drop>(
 ) -> Option<Search<D, A>>
     requires { 1 ≤ budget }
 {
-    let problem = problem_of(alloc, text).ok()?;
+    let problem = read_problem(alloc, text.as_bytes()).ok()?;
     Search::new(alloc, problem, distance, aggregator, budget).ok()
 }
 
