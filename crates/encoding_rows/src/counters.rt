@@ -1,4 +1,4 @@
-// The outputs and the clauses of small counters, with 0 before each clause.
+// The variables, outputs and clauses of small counters, with 0 before each clause.
 
 use crate::numbers::counted;
 use clause_store::{ClauseList, Lit};
@@ -16,13 +16,14 @@ fn sum_of_two(alloc: Global) -> Result<(Lit, Vec<i64>), NoMemory> {
     Ok((sum.at_least(2), counted(alloc, &sum, &clauses)?))
 }
 
-// The total of variables 1 and 2.
-fn total_of_two(alloc: Global) -> Result<Vec<i64>, NoMemory> {
+// The outputs of the total of variables 1 and 2, and the total.
+fn total_of_two(alloc: Global) -> Result<(Vec<u32>, Vec<i64>), NoMemory> {
     let mut clauses = ClauseList::new(alloc);
     let vars = [clauses.fresh().var, clauses.fresh().var];
     let parts = leaves(alloc, &vars)?;
     let sum = total(alloc, &mut clauses, &parts)?;
-    counted(alloc, &sum, &clauses)
+    let numbers = counted(alloc, &sum, &clauses)?;
+    Ok((sum.into_outputs(), numbers))
 }
 
 // The total of variable 1 given twice.
@@ -34,16 +35,16 @@ fn total_of_one_twice(alloc: Global) -> Result<Vec<i64>, NoMemory> {
     counted(alloc, &sum, &clauses)
 }
 
-// Whether variable 1 or 2 is true.
-fn either_of_two(alloc: Global) -> Result<Vec<i64>, NoMemory> {
+// How many outputs there are for whether variable 1 or 2 is true, and the counter of it.
+fn either_of_two(alloc: Global) -> Result<(u32, Vec<i64>), NoMemory> {
     let mut clauses = ClauseList::new(alloc);
     let vars = [clauses.fresh().var, clauses.fresh().var];
     let some = either(alloc, &mut clauses, &vars)?;
-    counted(alloc, &some, &clauses)
+    Ok((some.len(), counted(alloc, &some, &clauses)?))
 }
 
-const SUM: [i64; 22] = [
-    3, 4, 0, 1, 2, -3, 0, -2, 3, 0, 1, -4, 0, -1, 3, 0, 2, -4, 0, -1, -2, 4,
+const SUM: [i64; 23] = [
+    4, 3, 4, 0, 1, 2, -3, 0, -2, 3, 0, 1, -4, 0, -1, 3, 0, 2, -4, 0, -1, -2, 4,
 ];
 
 #[test]
@@ -52,13 +53,14 @@ fn a_sum_of_two_has_six_clauses(rt: HostRuntime) -> Result<(), Fail> {
     let (both, sum) = sum_of_two(alloc)?;
     assert_eq!(rt; both, Lit::positive(4));
     assert_eq!(rt; sum.as_slice(), SUM.as_slice());
-    let total = total_of_two(alloc)?;
+    let (outputs, total) = total_of_two(alloc)?;
+    assert_eq!(rt; outputs.as_slice(), [3, 4].as_slice());
     assert_eq!(rt; total.as_slice(), SUM.as_slice());
     Ok(())
 }
 
-const TWICE: [i64; 20] = [
-    2, 3, 0, 1, -2, 0, -1, 2, 0, 1, -3, 0, -1, 2, 0, 1, -3, 0, -1, 3,
+const TWICE: [i64; 21] = [
+    3, 2, 3, 0, 1, -2, 0, -1, 2, 0, 1, -3, 0, -1, 2, 0, 1, -3, 0, -1, 3,
 ];
 
 #[test]
@@ -68,11 +70,12 @@ fn a_part_given_twice_counts_twice(rt: HostRuntime) -> Result<(), Fail> {
     Ok(())
 }
 
-const EITHER: [i64; 11] = [3, 0, -1, 3, 0, -2, 3, 0, 1, 2, -3];
+const EITHER: [i64; 12] = [3, 3, 0, -1, 3, 0, -2, 3, 0, 1, 2, -3];
 
 #[test]
 fn either_of_two_has_three_clauses(rt: HostRuntime) -> Result<(), Fail> {
-    let either = either_of_two(rt.alloc())?;
+    let (count, either) = either_of_two(rt.alloc())?;
+    assert_eq!(rt; count, 1);
     assert_eq!(rt; either.as_slice(), EITHER.as_slice());
     Ok(())
 }

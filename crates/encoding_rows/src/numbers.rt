@@ -44,9 +44,10 @@ pub fn push_clauses(numbers: &mut Vec<i64>, clauses: &ClauseList) -> Result<(), 
     Ok(())
 }
 
-/// The outputs of a counter and then the clauses, with 0 before each.
+/// The number of variables, the outputs of a counter and then the clauses, with 0 before each.
 pub fn counted(alloc: Global, counter: &Unary, clauses: &ClauseList) -> Result<Vec<i64>, NoMemory> {
     let mut numbers = Vec::new(alloc);
+    numbers.push(i64::from(clauses.vars()))?;
     push_outputs(&mut numbers, counter)?;
     push_clauses(&mut numbers, clauses)?;
     Ok(numbers)

@@ -83,6 +83,7 @@ fn a_problem_over_one_atom_has_its_clauses(rt: HostRuntime) -> Result<(), Fail> 
     let alloc = rt.alloc();
     let numbers = small_numbers(alloc)?;
     assert_eq!(rt; numbers.as_slice(), NUMBERS.as_slice());
+    assert_eq!(rt; sizes(alloc, &Hamming, &Sum)?, (8, 14));
     assert_eq!(rt; sizes(alloc, &Hamming, &Max)?, (9, 16));
     assert_eq!(rt; sizes(alloc, &Drastic, &Leximax)?, (9, 16));
     Ok(())

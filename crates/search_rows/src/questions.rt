@@ -195,15 +195,16 @@ pub fn distances_about<D: Counted + Drop, A: Levelled + Drop>(
     noted_distances(&mut search, bits)
 }
 
-/// Where a first question that may learn one step stops, and the number of clauses known then.
+/// Where a first question that may learn one step stops, the number of the problem's atoms, and how
+/// many clauses are known then.
 pub fn stop_after_one_step<D: Counted + Drop, A: Levelled + Drop>(
     alloc: Global,
     text: &str,
     distance: D,
     aggregator: A,
-) -> Option<(SearchStop, u64)> {
+) -> Option<(SearchStop, u32, u64)> {
     let mut search = search_about(alloc, text, distance, aggregator, 1)?;
     let stop = search.consistency().err();
-    let (_problem, log) = search.into_parts();
-    Some((stop?, log.known().len()))
+    let (problem, log) = search.into_parts();
+    Some((stop?, problem.atoms.len(), log.known().len()))
 }

@@ -68,7 +68,7 @@ fn is_at_one_at_most(best: &Best) -> bool {
     let satisfies_third = best.shown.model.bits % 2 == 1;
     matches!(best.measure.as_slice(), [1])
         && matches!(best.values.as_slice(), [1])
-        && matches!(best.shown.vector.as_slice(), [_, _, away] if (*away == 0) == satisfies_third)
+        && matches!(best.shown.vector.as_slice(), [_, _, away] if *away == u32::from(!satisfies_third))
         && matches!(best.far.as_slice(), [_, _, far] if far.is_none() == satisfies_third)
 }
 
@@ -82,7 +82,7 @@ fn a_best_model_under_the_greatest_distance(rt: HostRuntime) -> Result<(), Fail>
 #[test]
 fn a_question_spends_a_budget_of_one_step(rt: HostRuntime) -> Result<(), Fail> {
     let spent = stop_after_one_step(rt.alloc(), NEVER, Hamming, Sum);
-    assert_eq!(rt; spent, Some((SearchStop::GaveUp(61), 62)));
+    assert_eq!(rt; spent, Some((SearchStop::GaveUp(61), 2, 62)));
     Ok(())
 }
 
@@ -114,7 +114,8 @@ fn distances_of_a_model_that_is_not_closest(rt: HostRuntime) -> Result<(), Fail>
     assert!(rt;
         matches!(&away, Some(away) if are_from_nearly_agreed(away)
         && away.shown.model == Valuation::new(1, 2)
-        && matches!(away.shown.vector.as_slice(), [1, 2]))
+        && matches!(away.shown.vector.as_slice(), [1, 2])
+        && matches!(away.far.as_slice(), [Some(_), Some(_)]))
     );
     Ok(())
 }
@@ -124,6 +125,7 @@ fn distances_of_a_closest_model(rt: HostRuntime) -> Result<(), Fail> {
     let away = distances_about(rt.alloc(), NEARLY_AGREED, Hamming, Sum, 3);
     assert!(rt;
         matches!(&away, Some(away) if are_from_nearly_agreed(away)
+        && away.shown.model == Valuation::new(3, 2)
         && matches!(away.shown.vector.as_slice(), [0, 1])
         && matches!(away.far.as_slice(), [None, Some(_)]))
     );
