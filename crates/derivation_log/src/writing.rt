@@ -1,5 +1,5 @@
 // Writing a step line.
-ghost use Rattle.std.specs.Prelude.{◌≡◌, ◌++◌, ◌∷◌, OnOk, OnErr, codes, decimal};
+ghost use Rattle.std.specs.Prelude.{◌≡◌, ◌++◌, ◌∷◌, OnOk, OnErr, codes};
 ghost use Rattle.std.specs.List.{flat_map, AllByRecursion};
 ghost use Rattle.report_words.specs.Numbers.{HasNumeral, literal_word};
 ghost use Rattle.report_words.specs.Words.{line_of, later_text};
