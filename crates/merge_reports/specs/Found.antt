@@ -17,7 +17,7 @@ use Rattle.distance_search.specs.Replies.{Shows}
 use Rattle.distance_search.specs.declared.reply.SearchStop.{SearchStop}
 use Rattle.distance_search.specs.declared.reply.SearchStop.TheVariants as stops
 use Rattle.report_lines.specs.declared.report.Proof.{Proof}
-use Rattle.report_lines.specs.ClaimsDue.{DueClaim, of_first, far_claims, claims_due}
+use Rattle.report_lines.specs.ClaimsDue.{DueClaim, of_first, far_claims, verdict_claims, claims_due}
 use Rattle.report_lines.specs.Reports.{step_of, IsProofOf}
 
 -- the proof is one of the claim, by a step that shows it
@@ -38,6 +38,13 @@ pub record IsRuled (s : Setting) (log : Log) (values : List ℕ) (q : ℕ) (old 
   pub more : List Proof
   pub appended : new ≡ old ++ more
   pub shown : AreShownBy s log (claims_on values q verdict) more
+
+-- the verdicts on the queries are right, in order, and the proofs of them were appended
+pub record AreRuled (s : Setting) (log : Log) (values : List ℕ) (old new : List Proof) (verdicts : List Verdict) : Type 0 where
+  pub right : AllZip (IsVerdict s.dist s.rank s.profile) s.asks verdicts
+  pub more : List Proof
+  pub appended : new ≡ old ++ more
+  pub shown : AreShownBy s log (verdict_claims values 0 verdicts) more
 
 -- the level values of a vector
 abbrev pub values_by : Setting → List ℕ → List ℕ

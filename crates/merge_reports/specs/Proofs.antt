@@ -2,6 +2,7 @@
 use Rattle.std.specs.Prelude.{ℕ, ◌+◌, Bool, List, [], ◌∷◌, ◌++◌, Option, None, Some, map}
 use Rattle.merge_model.specs.declared.answer.Answer.{Answer}
 use Rattle.merge_model.specs.declared.answer.Answer.TheVariants.{Inconsistent}
+use Rattle.distance_search.specs.declared.answer.Best.{Best}
 use Rattle.distance_search.specs.declared.answer.Consistency.{Consistency}
 use Rattle.distance_search.specs.declared.answer.Named.{Named}
 use Rattle.distance_search.specs.declared.answer.Named.TheVariants.{Model, Empty}
@@ -23,6 +24,10 @@ far_proofs k i steps = numbered_proofs (λ agent n. proof.Far k agent n) i steps
 -- nothing is better first, for the levels from j on
 abbrev pub least_proofs : ℕ → List (Option ℕ) → List Proof
 least_proofs j steps = numbered_proofs (λ level n. proof.Least level n) j steps
+
+-- those of a best answer
+abbrev pub best_proofs : Best → List Proof
+best_proofs best = far_proofs 0 0 best.far ++ least_proofs 0 best.least
 
 -- a formula has no model, by the step of a number
 abbrev pub lack_proof : Subject → ℕ → Proof

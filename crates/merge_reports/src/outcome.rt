@@ -3,7 +3,7 @@ ghost use Rattle.std.specs.Prelude.{◌≡◌, ◌≤◌, IfOk, MatchResult};
 ghost use Rattle.report_lines.specs.Accepted.{operator};
 ghost use Rattle.report_lines.specs.Operators.{operator_named};
 ghost use Rattle.merge_reports.specs.Found.{IsFound, IsEnded, IsSmall};
-ghost use Rattle.merge_reports.specs.Outcomes.{IsOutcome};
+ghost use Rattle.merge_reports.specs.Outcomes.{IsEnd, IsOutcome};
 
 use crate::judging::merged;
 use crate::naming::named;
@@ -59,12 +59,57 @@ fn find<D: Counted + Drop, A: Levelled + Drop>(
     }
 }
 
+/// The same, with the answer that the search gave up where it did.
+fn find_end<D: Counted + Drop, A: Levelled + Drop>(
+    alloc: Global,
+    search: &mut Search<D, A>,
+) -> Result<Found, NoMemory>
+    ensures subject { search.new.subject ≡ search.old.subject }
+    ensures end { IfOk result
+        (λ found. IsEnd
+        (⟦<Subject<D, A> as Questions>⟧.setting search.old.subject) search.new.engine.log
+        search.old.subject.budget found.answer found.proofs.items) }
+{
+    match find(alloc, search) {
+        Ok(found) => Ok(found),
+        Err(SearchStop::GaveUp(_)) => Ok(Found {
+            answer: Answer::GaveUp,
+            proofs: Vec::new(alloc),
+        }),
+        Err(SearchStop::NoMemory) => Err(NoMemory),
+    }
+}
+
 /// The log's numbers are small enough to be written.
 pub fn is_small(derivations: &Derivations)
     ensures { IsSmall derivations.now }
 {
     let known = derivations.known();
     let _ = (known.len(), known.vars());
+}
+
+/// Asks for the answer, and hands it out with the problem and the log.
+fn outcome_of<D: Counted + Drop, A: Levelled + Drop>(
+    alloc: Global,
+    mut search: Search<D, A>,
+) -> Result<Outcome, NoMemory>
+    ensures problem { IfOk result (λ outcome. outcome.problem ≡ search.subject.problem) }
+    ensures outcome { IfOk result
+        (λ outcome. IsOutcome (operator
+        (D.dist search.subject.distance) (D.most search.subject.distance)
+        (D.due search.subject.distance)
+        (A.rank search.subject.aggregator) (A.levels_of search.subject.aggregator)
+        (A.levels_due search.subject.aggregator)) search.subject.budget
+        outcome.problem outcome.derivations outcome.found.answer outcome.found.proofs.items) }
+{
+    let found = find_end(alloc, &mut search);
+    let (problem, derivations) = search.into_parts();
+    is_small(&derivations);
+    Ok(Outcome {
+        problem,
+        found: found?,
+        derivations,
+    })
 }
 
 /// Searches for the answer to a problem; each question may learn `conflicts` steps.
@@ -82,22 +127,8 @@ fn search_by<D: Counted + Drop, A: Levelled + Drop>(
         (A.rank aggregator) (A.levels_of aggregator) (A.levels_due aggregator)) conflicts
         outcome.problem outcome.derivations outcome.found.answer outcome.found.proofs.items) }
 {
-    let mut search = Search::new(alloc, problem, distance, aggregator, conflicts)?;
-    let found = match find(alloc, &mut search) {
-        Ok(found) => found,
-        Err(SearchStop::GaveUp(_)) => Found {
-            answer: Answer::GaveUp,
-            proofs: Vec::new(alloc),
-        },
-        Err(SearchStop::NoMemory) => return Err(NoMemory),
-    };
-    let (problem, derivations) = search.into_parts();
-    is_small(&derivations);
-    Ok(Outcome {
-        problem,
-        found,
-        derivations,
-    })
+    let search = Search::new(alloc, problem, distance, aggregator, conflicts)?;
+    outcome_of(alloc, search)
 }
 
 /// The same, by the names of the distance and of the aggregator.

@@ -1,12 +1,13 @@
 // Leaving out the steps that show nothing of an answer.
-ghost use Rattle.std.specs.Prelude.{◌≡◌, ◌≤◌, ◌<◌, length, map, IfOk};
+ghost use Rattle.std.specs.Prelude.{◌≡◌, ◌≤◌, ◌<◌, false, length, map, IfOk};
 ghost use Rattle.std.specs.List.{AllByRecursion};
 ghost use Rattle.derivation_log.specs.Logs.{known_of, IsSound};
 ghost use Rattle.report_lines.specs.Reports.{step_of};
-ghost use Rattle.merge_reports.specs.Trimmed.{is_given_up, proof_with, proofs_with, IsTrimmedFor};
+ghost use Rattle.merge_reports.specs.Trimmed.{is_given_up, proof_with, proofs_with};
+ghost use Rattle.merge_reports.specs.Trimmed.{IsTrimmedTo, IsTrimmedFor};
 
 use crate::outcome::{Found, Outcome};
-use derivation_log::{TrimmedLog, trim};
+use derivation_log::{Derivations, TrimmedLog, trim};
 use edge::NoMemory;
 use merge_model::Answer;
 use report_lines::Proof;
@@ -72,9 +73,27 @@ fn gave_up(answer: &Answer) -> bool
     }
 }
 
-/// Leaves of the log what the proofs need, where there is an answer. The log of a search that gave
-/// up stays whole, since it shows what was spent.
-pub fn trimmed(alloc: Global, outcome: Outcome) -> Result<Outcome, NoMemory>
+/// Leaves of a log what the proofs need: what is left, and the proofs by its numbers.
+fn trimmed_to(
+    alloc: Global,
+    derivations: Derivations,
+    proofs: &[Proof],
+) -> Result<(Derivations, Vec<Proof>), NoMemory>
+    requires sound { IsSound derivations.main derivations.steps }
+    requires proofs { AllByRecursion (λ n. (length derivations.main ≤ n) ×
+        (n < length (known_of derivations))) (map step_of proofs.now) }
+    ensures { IfOk result (λ left. IsTrimmedTo derivations proofs.now left.0 left.1.items) }
+{
+    let needed = step_numbers(alloc, proofs)?;
+    let log = trim(alloc, derivations, &needed)?;
+    let placed = with_steps(alloc, proofs, &log.numbers)?;
+    let TrimmedLog { derivations, .. } = log;
+    Ok((derivations, placed))
+}
+
+/// Leaves of the log what the proofs need, where there is an answer.
+fn trimmed_outcome(alloc: Global, outcome: Outcome) -> Result<Outcome, NoMemory>
+    requires answered { is_given_up outcome.found.answer ≡ false }
     requires sound { IsSound outcome.derivations.main outcome.derivations.steps }
     requires proofs { AllByRecursion (λ n. (length outcome.derivations.main ≤ n) ×
         (n < length (known_of outcome.derivations))) (map step_of outcome.found.proofs.items) }
@@ -88,23 +107,28 @@ pub fn trimmed(alloc: Global, outcome: Outcome) -> Result<Outcome, NoMemory>
         found: Found { answer, proofs },
         derivations,
     } = outcome;
-    if gave_up(&answer) {
-        return Ok(Outcome {
-            problem,
-            found: Found { answer, proofs },
-            derivations,
-        });
-    }
-    let needed = step_numbers(alloc, &proofs)?;
-    let log = trim(alloc, derivations, &needed)?;
-    let placed = with_steps(alloc, &proofs, &log.numbers)?;
-    let TrimmedLog { derivations, .. } = log;
+    let (derivations, proofs) = trimmed_to(alloc, derivations, &proofs)?;
     Ok(Outcome {
         problem,
-        found: Found {
-            answer,
-            proofs: placed,
-        },
+        found: Found { answer, proofs },
         derivations,
     })
+}
+
+/// Leaves of the log what the proofs need, where there is an answer. The log of a search that gave
+/// up stays whole, since it shows what was spent.
+pub fn trimmed(alloc: Global, outcome: Outcome) -> Result<Outcome, NoMemory>
+    requires sound { IsSound outcome.derivations.main outcome.derivations.steps }
+    requires proofs { AllByRecursion (λ n. (length outcome.derivations.main ≤ n) ×
+        (n < length (known_of outcome.derivations))) (map step_of outcome.found.proofs.items) }
+    ensures problem { IfOk result (λ left. left.problem ≡ outcome.problem) }
+    ensures answer { IfOk result (λ left. left.found.answer ≡ outcome.found.answer) }
+    ensures log { IfOk result (λ left. IsTrimmedFor outcome.found.answer outcome.derivations
+        outcome.found.proofs.items left.derivations left.found.proofs.items) }
+{
+    if gave_up(&outcome.found.answer) {
+        Ok(outcome)
+    } else {
+        trimmed_outcome(alloc, outcome)
+    }
 }
