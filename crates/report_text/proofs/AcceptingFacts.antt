@@ -13,7 +13,7 @@ use Rattle.report_text.specs.declared.stop.LineStop.TheVariants as stops
 use Rattle.report_text.specs.Accepting.{IsStop, IsEnd, HasNoFeed, stop_at}
 use Rattle.report_text.specs.Checker.{Stands, IsFit, IsOver, IsNext, IsOutcome}
 use Rattle.report_text.specs.Open.{Open}
-use Rattle.report_text.specs.Progress.{StandsBefore, IsAt, IsTaken, IsFed}
+use Rattle.report_text.specs.Progress.{StandsBefore, IsAt}
 use Rattle.report_text.proofs.CheckerPlaces.{is_over, over_due, is_fit}
 use Rattle.report_text.proofs.OpenLaws.{open_feed, open_more, open_wrong, open_late, open_past, open_over, open_unended}
 
@@ -37,11 +37,11 @@ module _ (progress : Progress) (line text next : List ℕ) (h : StandsBefore tex
   unfed : HasNoFeed (progress.held.items ++ line)
   unfed = All-append (λ b. eqb b 10 ≡ false) progress.held.items line h.unended none
 
-  pub line_late : IsOver progress.checker → IsTaken text next (Err (stop_at progress.number (stops.Wrong refused.Ended)))
+  pub line_late : IsOver progress.checker → (more : List ℕ) → IsStop (text ++ more) (stop_at progress.number (stops.Wrong refused.Ended))
   line_late over =
       open_late text (progress.held.items ++ (line ++ 10 ∷ next)) h.place progress.number h.reads (progress.held.items ++ line) next split unfed (over_due progress.checker h.place h.stands over)
 
-  pub line_right : (later : Progress) → IsNext h.place (progress.held.items ++ line) (Ok later.checker) → later.held.items ≡ [] → later.number ≡ progress.number + 1 → IsTaken text next (Ok later)
+  pub line_right : (later : Progress) → IsNext h.place (progress.held.items ++ line) (Ok later.checker) → later.held.items ≡ [] → later.number ≡ progress.number + 1 → StandsBefore text next later
   line_right later right empty number = record {
     place = right.0;
     stands = right.2;
@@ -50,17 +50,17 @@ module _ (progress : Progress) (line text next : List ℕ) (h : StandsBefore tex
     unended = subst HasNoFeed (sym empty) (All-nil (λ b. eqb b 10 ≡ false));
   }
 
-  pub line_stop : (stop : LineStop) → (IsOver progress.checker → ⊥) → IsNext h.place (progress.held.items ++ line) (Err stop) → IsTaken text next (Err (stop_at progress.number stop))
+  pub line_stop : (stop : LineStop) → (IsOver progress.checker → ⊥) → IsNext h.place (progress.held.items ++ line) (Err stop) → (more : List ℕ) → IsStop (text ++ more) (stop_at progress.number stop)
   line_stop (stops.Wrong k) unfinished wrong =
       open_wrong text (progress.held.items ++ (line ++ 10 ∷ next)) h.place progress.number h.reads (progress.held.items ++ line) next split unfed k (λ over. unfinished (is_over progress.checker h.place h.stands over)) wrong
   line_stop stops.NoMemory unfinished wrong = λ more. tt
 
 -- no line of it ends any more
 module _ (progress : Progress) (rest text : List ℕ) (h : StandsBefore text rest progress) (none : HasNoFeed rest) where
-  pub hold_late : IsOver progress.checker → progress.held.items ++ rest ≢ [] → IsFed text (Err (stop_at progress.number (stops.Wrong refused.Ended)))
+  pub hold_late : IsOver progress.checker → progress.held.items ++ rest ≢ [] → (more : List ℕ) → IsStop (text ++ more) (stop_at progress.number (stops.Wrong refused.Ended))
   hold_late over some = open_past text (progress.held.items ++ rest) h.place progress.number h.reads some (over_due progress.checker h.place h.stands over)
 
-  pub hold_more : (later : Progress) → later.checker ≡ progress.checker → later.held.items ≡ progress.held.items ++ rest → later.number ≡ progress.number → (IsOver progress.checker → later.held.items ≡ []) → IsFed text (Ok later)
+  pub hold_more : (later : Progress) → later.checker ≡ progress.checker → later.held.items ≡ progress.held.items ++ rest → later.number ≡ progress.number → (IsOver progress.checker → later.held.items ≡ []) → IsAt text later
   hold_more later same held number late = record {
     place = h.place;
     stands = subst (λ k. Stands k h.place) (sym same) h.stands;

@@ -1,4 +1,4 @@
--- What stands while a text comes in pieces: it begins, a piece comes, a line is taken, a line is wrong, the text is over.
+-- What stands while a text comes in pieces: a piece comes, a line is taken, a line is wrong, the text is over.
 use Rattle.std.proofs.Common.{◌≡◌, ◌≢◌, ℕ, ◌+◌, Bool, true, false, cond, List, [], ◌∷◌, ◌++◌, refl, ap, sym, subst, ◌∙◌, append_assoc, length-append, arith}
 use Rattle.std.specs.Prelude.{eqb}
 use Rattle.std.specs.List.{onto_first}
@@ -7,7 +7,7 @@ use Rattle.std.proofs.lemmas.List.Splits.{slice_split_none, slice_split_at}
 use Rattle.report_lines.specs.declared.kinds.Due.TheVariants as due
 use Rattle.report_lines.specs.declared.kinds.RefusedKind.{RefusedKind}
 use Rattle.report_lines.specs.declared.kinds.RefusedKind.TheVariants as refused
-use Rattle.report_lines.specs.Places.{Position, start}
+use Rattle.report_lines.specs.Places.{Position}
 use Rattle.report_lines.specs.Judged.{IsRight, IsWrong, AreRight, IsWrongNext, pieces_of, unended, after_end, wrong_line, IsFirstWrong, IsAccepted}
 use Rattle.report_text.specs.Accepting.{HasNoFeed}
 use Rattle.report_text.specs.Open.{Open}
@@ -36,9 +36,6 @@ late_bytes [] more q some over = absurd (some refl)
 late_bytes (b ∷ bs) more q some over =
     let n = some_piece (bs ++ more) in
     subst (λ (ps : List (List ℕ)). IsWrongNext q refused.Ended (cond (eqb b 10) ([] ∷ ps) (onto_first b ps))) (sym n.2) (late_by (eqb b 10) b n.0 n.1 q over)
-
-pub open_start : Open [] [] start 1
-open_start = record { before = []; whole = λ more. refl; right = refl; count = refl }
 
 -- a piece comes
 pub open_feed : (text rest piece : List ℕ) (q : Position) (number : ℕ) → Open text rest q number → Open (text ++ piece) (rest ++ piece) q number

@@ -15,7 +15,7 @@ use Rattle.report_text.specs.declared.progress.Progress.{Progress}
 use Rattle.report_text.specs.declared.streaming.AcceptFromStop.{AcceptFromStop}
 use Rattle.report_text.specs.declared.streaming.AcceptFromStop.TheVariants as stops
 use Rattle.report_text.specs.Accepting.{IsStop, IsBorneOutText}
-use Rattle.report_text.specs.Progress.{IsAt, IsFed}
+use Rattle.report_text.specs.Progress.{IsAt}
 use Rattle.report_text.specs.Streaming.{IsUndecided, IsReadNoFurther, IsRefusedFrom, IsAnswerFrom, IsJudgedFrom, IsStopFrom, stop_from}
 use Rattle.report_text.proofs.AcceptingFacts.{whole_stop}
 
@@ -51,10 +51,10 @@ module _ (a b c : Option (List ℕ)) (r s t : ℕ) (progress : Progress) (h : St
     more : Gave a c r t (h.text ++ piece)
     more = Gave-more a b c r s t h.text piece h.gave known spent
 
-    pub streams_more : (later : Progress) → IsFed (h.text ++ piece) (Ok later) → Streams a c r t later
+    pub streams_more : (later : Progress) → IsAt (h.text ++ piece) later → Streams a c r t later
     streams_more later fed = record { text = h.text ++ piece; gave = more; reads = fed }
 
-    pub streams_stop : length piece ≤ 4096 → (stop : AcceptStop) → IsFed (h.text ++ piece) (Err stop) → IsJudgedFrom a c r t (Err (stop_from stop))
+    pub streams_stop : length piece ≤ 4096 → (stop : AcceptStop) → ((more : List ℕ) → IsStop ((h.text ++ piece) ++ more) stop) → IsJudgedFrom a c r t (Err (stop_from stop))
     streams_stop few stop fed = record {
       text = h.text ++ piece;
       gave = more;

@@ -50,6 +50,11 @@ IsNext p line (Ok next) = (q : Position) × IsRight p line q × Stands next q
 IsNext p line (Err (stops.Wrong k)) = IsWrong p line k
 IsNext p line (Err stops.NoMemory) = Unit {0}
 
+-- the same of a checker that goes on in place
+abbrev pub IsAfter : Position → List ℕ → Checker → Result (Unit {0}) LineStop → Type 0
+IsAfter p line next (Ok _) = IsNext p line (Ok next)
+IsAfter p line next (Err stop) = IsNext p line (Err stop)
+
 -- what is accepted where the report is over
 abbrev pub IsOutcome : Position → Option Kind → Type 0
 IsOutcome p None = p.due ≢ due.Over

@@ -24,11 +24,11 @@ pub record IsAt (text : List ℕ) (progress : Progress) : Type 0 where
   pub nothing_late : place.due ≡ due.Over → progress.held.items ≡ []
 
 -- a line was right, and these bytes are next; or the text is refused, whatever follows
-abbrev pub IsTaken : List ℕ → List ℕ → Result Progress AcceptStop → Type 0
-IsTaken text next (Ok progress) = StandsBefore text next progress
-IsTaken text next (Err stop) = (more : List ℕ) → IsStop (text ++ more) stop
+abbrev pub IsTaken : List ℕ → List ℕ → Progress → Result (Unit {0}) AcceptStop → Type 0
+IsTaken text next progress (Ok _) = StandsBefore text next progress
+IsTaken text next progress (Err stop) = (more : List ℕ) → IsStop (text ++ more) stop
 
 -- the text has come and no answer is due yet; or it is refused, whatever follows
-abbrev pub IsFed : List ℕ → Result Progress AcceptStop → Type 0
-IsFed text (Ok progress) = IsAt text progress
-IsFed text (Err stop) = (more : List ℕ) → IsStop (text ++ more) stop
+abbrev pub IsFed : List ℕ → Progress → Result (Unit {0}) AcceptStop → Type 0
+IsFed text progress (Ok _) = IsAt text progress
+IsFed text progress (Err stop) = (more : List ℕ) → IsStop (text ++ more) stop

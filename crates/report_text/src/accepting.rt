@@ -30,10 +30,9 @@ pub enum AcceptStop {
 fn judge(alloc: Global, bytes: &[u8]) -> Result<Kind, AcceptStop>
     ensures { IsEnd bytes.now result }
 {
-    match Progress::new(alloc).piece(alloc, bytes) {
-        Ok(progress) => progress.end(),
-        Err(stop) => Err(stop),
-    }
+    let mut progress = Progress::new(alloc);
+    progress.piece(alloc, bytes)?;
+    progress.end()
 }
 
 /// Judges a whole report: what it is accepted as, or its first wrong line. What is accepted has the

@@ -111,8 +111,8 @@ impl Checker {
     }
 
     /// What is accepted, where the report is over.
-    pub fn outcome(self) -> Option<Kind>
-        ensures { (p : Position) → Stands self p → IsOutcome p result }
+    pub fn outcome(&self) -> Option<Kind>
+        ensures { (p : Position) → Stands self.now p → IsOutcome p result }
     {
         match self {
             Checker::Front(_) => None,

@@ -1,6 +1,7 @@
 // How far a report has been judged that comes in pieces.
 ghost use Rattle.std.specs.Prelude.{◌≡◌, ℕ, List, [], ◌∷◌, ◌++◌, MatchOption};
-ghost use Rattle.report_text.specs.Checker.{IsFit};
+ghost use Rattle.report_lines.specs.Places.{Position};
+ghost use Rattle.report_text.specs.Checker.{Stands, IsFit, IsOver, IsAfter};
 ghost use Rattle.report_text.specs.Accepting.{IsEnd, HasNoFeed, stop_at};
 ghost use Rattle.report_text.specs.Progress.{StandsBefore, IsAt, IsTaken, IsFed};
 
@@ -9,6 +10,7 @@ use crate::checker::Checker;
 use crate::stop::LineStop;
 use report_lines::{Kind, RefusedKind};
 use std::alloc::Global;
+use std::mem::replace;
 
 /// What is known of the text that has come.
 #[derive(Drop)]
@@ -44,6 +46,16 @@ fn stopped(line: u64, stop: LineStop) -> AcceptStop
     }
 }
 
+// Judges a line and stands after it. After a stop the checker is as before the first line.
+fn advance(checker: &mut Checker, alloc: Global, line: &[u8]) -> Result<(), LineStop>
+    requires over { IsOver checker.old → ⊥ }
+    requires fit { IsFit checker.old }
+    ensures { (p : Position) → Stands checker.old p → IsAfter p line.now checker.new result }
+{
+    *checker = replace(checker, Checker::new(alloc)).line(alloc, line)?;
+    Ok(())
+}
+
 impl Progress {
     /// Before the first byte.
     pub fn new(alloc: Global) -> Progress
@@ -57,80 +69,59 @@ impl Progress {
     }
 
     // Judges the line that begins with what is held and ends with these bytes.
-    fn line(self, alloc: Global, line: &[u8]) -> Result<Progress, AcceptStop>
-        requires { IsFit self.checker }
-        ensures { (text next : List ℕ) → StandsBefore text (line.now ++ 10 ∷ next) self →
-            HasNoFeed line.now → IsTaken text next result }
+    fn line(&mut self, alloc: Global, line: &[u8]) -> Result<(), AcceptStop>
+        requires { IsFit self.old.checker }
+        ensures { (text next : List ℕ) → StandsBefore text (line.now ++ 10 ∷ next) self.old →
+            HasNoFeed line.now → IsTaken text next self.new result }
     {
-        let Progress {
-            checker,
-            mut held,
-            number,
-        } = self;
-        if checker.is_over() {
-            return Err(stopped(number, LineStop::Wrong(RefusedKind::Ended)));
+        if self.checker.is_over() {
+            return Err(stopped(self.number, LineStop::Wrong(RefusedKind::Ended)));
         }
-        if held.extend_from_slice(line).is_err() {
+        if self.held.extend_from_slice(line).is_err() {
             return Err(AcceptStop::NoMemory);
         }
-        let checker = match checker.line(alloc, held.as_slice()) {
-            Ok(next) => next,
-            Err(stop) => return Err(stopped(number, stop)),
-        };
-        let Some(number) = number.checked_add(1) else {
+        if let Err(stop) = advance(&mut self.checker, alloc, self.held.as_slice()) {
+            return Err(stopped(self.number, stop));
+        }
+        let Some(number) = self.number.checked_add(1) else {
             return Err(AcceptStop::NoMemory);
         };
-        held.clear();
-        Ok(Progress {
-            checker,
-            held,
-            number,
-        })
+        self.number = number;
+        self.held.clear();
+        Ok(())
     }
 
     // Holds the last bytes of a piece, which no line feed follows yet. After an end none may come.
-    fn hold(self, rest: &[u8]) -> Result<Progress, AcceptStop>
-        ensures { (text : List ℕ) → StandsBefore text rest.now self → HasNoFeed rest.now →
-            IsFed text result }
+    fn hold(&mut self, rest: &[u8]) -> Result<(), AcceptStop>
+        ensures { (text : List ℕ) → StandsBefore text rest.now self.old → HasNoFeed rest.now →
+            IsFed text self.new result }
     {
-        let Progress {
-            checker,
-            mut held,
-            number,
-        } = self;
-        if held.extend_from_slice(rest).is_err() {
+        if self.held.extend_from_slice(rest).is_err() {
             return Err(AcceptStop::NoMemory);
         }
-        if checker.is_over() && !held.is_empty() {
-            return Err(stopped(number, LineStop::Wrong(RefusedKind::Ended)));
+        if self.checker.is_over() && !self.held.is_empty() {
+            return Err(stopped(self.number, LineStop::Wrong(RefusedKind::Ended)));
         }
-        Ok(Progress {
-            checker,
-            held,
-            number,
-        })
+        Ok(())
     }
 
-    /// Takes the next piece of the text: judges each line that ends in it.
-    pub fn piece(self, alloc: Global, piece: &[u8]) -> Result<Progress, AcceptStop>
-        requires { (text : List ℕ) × IsAt text self }
-        ensures { (text : List ℕ) → IsAt text self → IsFed (text ++ piece.now) result }
+    /// Takes the next piece of the text: judges each line that ends in it. After a stop the progress
+    /// is of no use any more.
+    pub fn piece(&mut self, alloc: Global, piece: &[u8]) -> Result<(), AcceptStop>
+        requires { (text : List ℕ) × IsAt text self.old }
+        ensures { (text : List ℕ) → IsAt text self.old → IsFed (text ++ piece.now) self.new result }
     {
-        let mut progress = self;
         let mut rest = piece;
         while let Some((line, after)) = first_line(rest) {
-            progress = match progress.line(alloc, line) {
-                Ok(next) => next,
-                Err(stop) => return Err(stop),
-            };
+            self.line(alloc, line)?;
             rest = after;
         }
-        progress.hold(rest)
+        self.hold(rest)
     }
 
     /// Judges the end of the text.
-    pub fn end(self) -> Result<Kind, AcceptStop>
-        ensures { (text : List ℕ) → IsAt text self → IsEnd text result }
+    pub fn end(&self) -> Result<Kind, AcceptStop>
+        ensures { (text : List ℕ) → IsAt text self.now → IsEnd text result }
     {
         match self.checker.outcome() {
             Some(kind) => Ok(kind),

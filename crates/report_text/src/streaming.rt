@@ -1,7 +1,8 @@
 // Reports that come from a source, judged line by line while they come.
-ghost use Rattle.std.specs.Prelude.{◌≡◌, ◌≢◌, ◌≤◌, ℕ, List, Some, IfOk, IfErr, IsErrOf};
+ghost use Rattle.std.specs.Prelude.{◌≡◌, ◌≢◌, ◌≤◌, ℕ, List, [], Some, IfOk, IfErr, IsErrOf};
 ghost use Rattle.edge.specs.Faults.{Rose};
 ghost use Rattle.report_lines.specs.Judged.{IsAccepted};
+ghost use Rattle.report_text.specs.Progress.{IsAt};
 ghost use Rattle.report_text.specs.Streaming.{IsJudgedFrom, IsStopFrom, stop_from};
 
 use crate::accepting::{AcceptStop, Refused};
@@ -36,8 +37,13 @@ impl From<AcceptStop> for AcceptFromStop {
     }
 }
 
-// Reads a piece, judges it, and so on.
-fn judge_from<S: Source>(alloc: Global, source: &mut S) -> Result<Kind, AcceptFromStop>
+// Reads a piece, judges it, and so on, from the first on.
+fn judge_from<S: Source>(
+    alloc: Global,
+    source: &mut S,
+    progress: &mut Progress,
+) -> Result<Kind, AcceptFromStop>
+    requires { IsAt [] progress.old }
     ensures judged { IsJudgedFrom (S.left source.old) (S.left source.new)
         (S.room source.old) (S.room source.new) result }
     ensures failed { IsErrOf result AcceptFromStop.Failed →
@@ -47,7 +53,6 @@ fn judge_from<S: Source>(alloc: Global, source: &mut S) -> Result<Kind, AcceptFr
         S.faults source.new ≡ S.faults source.old }
 {
     accepted_has_parts();
-    let mut progress = Progress::new(alloc);
     let mut piece = [0u8; PIECE];
     loop {
         let Ok(count) = source.read(&mut piece) else {
@@ -56,7 +61,7 @@ fn judge_from<S: Source>(alloc: Global, source: &mut S) -> Result<Kind, AcceptFr
         if count == 0 {
             return Ok(progress.end()?);
         }
-        progress = progress.piece(alloc, &piece[..count])?;
+        progress.piece(alloc, &piece[..count])?;
     }
 }
 
@@ -79,5 +84,5 @@ pub fn accept_from<S: Source>(alloc: Global, source: &mut S) -> Result<Kind, Acc
     ensures quiet { result ≢ Err AcceptFromStop.Failed →
         S.faults source.new ≡ S.faults source.old }
 {
-    judge_from(alloc, source)
+    judge_from(alloc, source, &mut Progress::new(alloc))
 }

@@ -5,7 +5,7 @@ use Rattle.report_text.proofs.StreamingFacts.{streams_start, streams_more, strea
 use Rattle.report_text.proofs.streaming.judge_from.Goals as goal
 
 pub loop-count-init : goal.loop-count-init
-loop-count-init g c = record { streams = streams_start _ _ _ c.new-progress.ensures; quiet = refl }
+loop-count-init g c = record { streams = streams_start _ _ _ c.requires; quiet = refl }
 
 pub piece-requires : goal.piece-requires
 piece-requires g c = let h = c.loop-count.invariant.streams in (h.text, h.reads)
@@ -31,15 +31,15 @@ returns-in_err-end-clause-judged g c =
     let p = err_from_is_err_and c.from_residual.result c.from_residual.ensures.1 in
     rw (p.1, p.2) (streams_refused _ _ _ _ _ _ _ h known (omega (arith, c.in-Ok.ensures.room, c.if-count-eq0.true)) over c.in_err-end.field-0.0 (c.in_err-end.ensures h.text h.reads))
 
-pub returns-in_err-progress-clause-judged : goal.returns-in_err-progress-clause-judged
-returns-in_err-progress-clause-judged g c =
+pub returns-in_err-piece-clause-judged : goal.returns-in_err-piece-clause-judged
+returns-in_err-piece-clause-judged g c =
     let h = c.loop-count.invariant.streams in
-    let p = err_from_is_err_and c.from_residual-in_err-progress.result c.from_residual-in_err-progress.ensures.1 in
-    rw (p.1, p.2) (streams_stop _ _ _ _ _ _ _ h (take c.in-Ok.count c.read.new.into) c.in-Ok.ensures.bytes.0 (simp length-take (omega (arith, c.in-Ok.ensures.bound, c.in-Ok.ensures.room))) (simp length-take (omega arith)) c.in_err-progress.field-0.0 (c.in_err-progress.ensures h.text h.reads))
+    let p = err_from_is_err_and c.from_residual-in_err-piece.result c.from_residual-in_err-piece.ensures.1 in
+    rw (p.1, p.2) (streams_stop _ _ _ _ _ _ _ h (take c.in-Ok.count c.read.new.into) c.in-Ok.ensures.bytes.0 (simp length-take (omega (arith, c.in-Ok.ensures.bound, c.in-Ok.ensures.room))) (simp length-take (omega arith)) c.in_err-piece.field-0.0 (c.in_err-piece.ensures h.text h.reads))
 
 pub loop-count-preserved : goal.loop-count-preserved
 loop-count-preserved g c =
     let h = c.loop-count.invariant.streams in record {
-      streams = streams_more _ _ _ _ _ _ _ h (take c.in-Ok.count c.read.new.into) c.in-Ok.ensures.bytes.0 (simp length-take (omega (arith, c.in-Ok.ensures.bound, c.in-Ok.ensures.room))) c.in_ok-progress.progress (c.in_ok-progress.ensures h.text h.reads);
+      streams = streams_more _ _ _ _ _ _ _ h (take c.in-Ok.count c.read.new.into) c.in-Ok.ensures.bytes.0 (simp length-take (omega (arith, c.in-Ok.ensures.bound, c.in-Ok.ensures.room))) c.piece.new.self (c.in_ok-piece.ensures h.text h.reads);
       quiet = c.in-Ok.ensures.cause.quiet ∙ c.loop-count.invariant.quiet;
     }

@@ -17,15 +17,17 @@ returns-then-is_err c = λ text h none more. tt
 
 pub returns-then-not-is_empty : goal.returns-then-not-is_empty
 returns-then-not-is_empty c = λ text h none.
-    let held : c.extend_from_slice.new.self.items ≡ c.args.self.held.items ++ c.args.rest.now = search rules in
+    let s = c.args.self.now in
+    let held : c.extend_from_slice.new.self.items ≡ s.held.items ++ c.args.rest.now = search rules in
     let filled : c.extend_from_slice.new.self.items ≢ [] = search rules in
-    rw c.stopped.ensures (hold_late c.args.self c.args.rest.now text h none (c.is_over.ensures.0 c.if-is_over.true) (subst (λ (l : List ℕ). l ≢ []) held filled))
+    rw c.stopped.ensures (hold_late s c.args.rest.now text h none (c.is_over.ensures.0 c.if-is_over.true) (subst (λ (l : List ℕ). l ≢ []) held filled))
 
 pub returns : goal.returns
 returns c = λ text h none.
+    let s = c.args.self.now in
     let bytes = c.extend_from_slice.new.self in
-    let held : bytes.items ≡ c.args.self.held.items ++ c.args.rest.now = search rules in
-    let late : IsOver c.args.self.checker → bytes.items ≡ [] = λ over.
+    let held : bytes.items ≡ s.held.items ++ c.args.rest.now = search rules in
+    let late : IsOver s.checker → bytes.items ≡ [] = λ over.
     let t = c.is_over.ensures.1 over in
     elim c.else-is_over.branch [
       | else-is_over-via-then-is_over+else-not-is_empty w ↦
@@ -33,4 +35,4 @@ returns c = λ text h none.
           no_bytes bytes.items (omega (arith, bytes.ok.0, size))
       | else-is_over-via-else-is_over w ↦ absurd (cc (t, w.if-is_over.false))
     ] in
-    hold_more c.args.self c.args.rest.now text h none (record { checker = c.args.self.checker; held = bytes; number = c.args.self.number }) refl held refl late
+    hold_more s c.args.rest.now text h none (record { checker = s.checker; held = bytes; number = s.number }) refl held refl late
