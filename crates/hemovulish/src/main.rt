@@ -35,30 +35,28 @@ impl<R: Env> Env for AfterName<'_, R> {
     }
 }
 
-// The arguments behind the program's own name. Where one is not UTF-8, a single empty word, which
-// no command has, stands for all of them.
-fn words_of<R: Env + AllocGlobal>(rt: &R) -> Result<Words, NoMemory> {
-    let mut words = Words::new(rt.alloc());
+// Adds the arguments behind the program's own name. Where one is not UTF-8, a single empty word,
+// which no command has, stands for all of them.
+fn add_arguments<R: Env + AllocGlobal>(rt: &R, words: &mut Words) -> Result<(), NoMemory> {
     match env::args(&(AfterName { rt }, rt.alloc())) {
         Ok(arguments) => {
             for word in arguments {
                 words.push(word.as_str())?;
             }
+            Ok(())
         }
-        Err(fault) => {
-            if fault.kind() == ErrorKind::OutOfMemory {
-                return Err(NoMemory);
-            }
-            words.push("")?;
-        }
+        Err(fault) => match fault.kind() {
+            ErrorKind::OutOfMemory => Err(NoMemory),
+            _ => words.push(""),
+        },
     }
-    Ok(words)
 }
 
 fn main(rt: HostRuntime) -> ExitCode {
-    let Ok(words) = words_of(&rt) else {
+    let mut words = Words::new(rt.alloc());
+    if add_arguments(&rt, &mut words).is_err() {
         return ExitCode::from(status::NO_MEMORY);
-    };
+    }
     let mut source = StdSource::new(rt.stdin());
     let mut sink = StdSink::new(rt.stdout());
     let outcome = run(rt.alloc(), &words, &mut source, &mut sink);
