@@ -27,3 +27,9 @@ pub returns-clause-answer : goal.returns-clause-answer
 returns-clause-answer g c =
     let size : c.len-query-end.result ≡ length c.args.search.now.subject.problem.asks = c.len-query-end.ensures ∙ ap (λ (p : Problem). length p.asks) c.problem.ensures in
     all_ruled _ c.loop-query.search.engine.log c.args.best.now.values c.loop-query.query c.args.proofs.now.items c.loop-query.proofs.items c.loop-query.verdicts.items (omega (arith, size, c.loop-query-test.false)) c.loop-query.invariant.ruled
+
+pub returns-in_err-verdict-clause-longer : goal.returns-in_err-verdict-clause-longer
+returns-in_err-verdict-clause-longer g c = longer_on c.args.search.now.engine.log c.loop-query.search.engine.log c.judge.new.search.engine.log c.loop-query.invariant.longer c.judge.ensures.longer
+
+pub returns-in_err-push-clause-longer : goal.returns-in_err-push-clause-longer
+returns-in_err-push-clause-longer g c = longer_on c.args.search.now.engine.log c.loop-query.search.engine.log c.judge.new.search.engine.log c.loop-query.invariant.longer c.judge.ensures.longer
