@@ -7,7 +7,7 @@ use Rattle.std.proofs.lemmas.List.Splits.{slice_split_none, slice_split_at}
 use Rattle.report_lines.specs.declared.kinds.Due.TheVariants as due
 use Rattle.report_lines.specs.declared.kinds.RefusedKind.{RefusedKind}
 use Rattle.report_lines.specs.declared.kinds.RefusedKind.TheVariants as refused
-use Rattle.report_lines.specs.Places.{Position}
+use Rattle.report_lines.specs.Places.{Position, start}
 use Rattle.report_lines.specs.Judged.{IsRight, IsWrong, AreRight, IsWrongNext, pieces_of, unended, after_end, wrong_line, IsFirstWrong, IsAccepted}
 use Rattle.report_text.specs.Accepting.{HasNoFeed}
 use Rattle.report_text.specs.Open.{Open}
