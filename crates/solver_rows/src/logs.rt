@@ -6,7 +6,8 @@ ghost use Rattle.derivation_log.specs.Logs.{known_of, Follows, IsSound};
 
 use crate::questions::fourteen_clauses;
 use clause_store::Lit;
-use derivation_log::{Derivations, Step, TrimmedLog, read_step, trim};
+use derivation_log::{Derivations, Step, StepReadStop, TrimmedLog, read_step, trim};
+use edge::NoMemory;
 use log_checker::check_step;
 use std::alloc::Global;
 use std::test::Fail;
@@ -30,7 +31,7 @@ fn are_within(vars: u32, lits: &[Lit]) -> bool
 }
 
 /// The log of no step.
-fn no_step(alloc: Global) -> Result<Derivations, Fail>
+fn no_step(alloc: Global) -> Result<Derivations, NoMemory>
     ensures { IfOk result (λ log. IsSound log.main log.steps) }
 {
     Ok(Derivations::new(alloc, fourteen_clauses(alloc)?))
@@ -64,9 +65,10 @@ fn append(alloc: Global, log: &mut Derivations, line: &[u8]) -> Result<(), Fail>
 }
 
 /// The log of the steps of three lines.
-pub fn log_of(alloc: Global, first: &[u8], second: &[u8], third: &[u8]) -> Result<Derivations, Fail>
+fn log_of(alloc: Global, lines: [&[u8]; 3]) -> Result<Derivations, Fail>
     ensures { IfOk result (λ log. IsSound log.main log.steps) }
 {
+    let [first, second, third] = lines;
     let mut log = no_step(alloc)?;
     append(alloc, &mut log, first)?;
     append(alloc, &mut log, second)?;
@@ -81,26 +83,22 @@ fn is_step(log: &Derivations, number: u64) -> bool
     log.main_len() <= number && number < log.known().len()
 }
 
-/// The log of which what is needed for the step of this number is left.
-pub fn trimmed_to(alloc: Global, log: Derivations, number: u64) -> Result<TrimmedLog, Fail>
-    requires { IsSound log.main log.steps }
-{
-    if !is_step(&log, number) {
-        return Err(Fail::new("a number is not that of a step"));
+/// What is left of the log of three lines where its last step is needed.
+pub fn trimmed(alloc: Global, lines: [&[u8]; 3]) -> Result<TrimmedLog, Fail> {
+    let log = log_of(alloc, lines)?;
+    if !is_step(&log, 16) {
+        return Err(Fail::new("there is no step 16"));
     }
-    let left = trim(alloc, log, &[number])?;
-    Ok(left)
+    Ok(trim(alloc, log, &[16])?)
 }
 
-/// The same with the number named twice.
-pub fn trimmed_to_twice(alloc: Global, log: Derivations, number: u64) -> Result<TrimmedLog, Fail>
-    requires { IsSound log.main log.steps }
-{
-    if !is_step(&log, number) {
-        return Err(Fail::new("a number is not that of a step"));
+/// The same where the step is named twice.
+pub fn trimmed_twice(alloc: Global, lines: [&[u8]; 3]) -> Result<TrimmedLog, Fail> {
+    let log = log_of(alloc, lines)?;
+    if !is_step(&log, 16) {
+        return Err(Fail::new("there is no step 16"));
     }
-    let left = trim(alloc, log, &[number, number])?;
-    Ok(left)
+    Ok(trim(alloc, log, &[16, 16])?)
 }
 
 fn are_same(left: &Step, right: &Step) -> bool {
@@ -110,12 +108,22 @@ fn are_same(left: &Step, right: &Step) -> bool {
         && left.chain.as_slice() == right.chain.as_slice()
 }
 
-/// Whether the log has the step of a line under the line's number.
-pub fn has_step(alloc: Global, log: &Derivations, line: &[u8]) -> Result<bool, Fail> {
-    let (number, step) = read_step(alloc, line)?;
-    if number < log.main_len() || log.known().len() <= number {
+/// Whether the log has this step under this number.
+fn has_this_step(
+    alloc: Global,
+    log: &Derivations,
+    number: u64,
+    step: &Step,
+) -> Result<bool, NoMemory> {
+    if !is_step(log, number) {
         return Ok(false);
     }
     let kept = log.step(alloc, number)?;
-    Ok(are_same(&kept, &step))
+    Ok(are_same(&kept, step))
+}
+
+/// Whether the log has the step of a line under the line's number.
+pub fn has_step(alloc: Global, log: &Derivations, line: &[u8]) -> Result<bool, StepReadStop> {
+    let (number, step) = read_step(alloc, line)?;
+    Ok(has_this_step(alloc, log, number, &step)?)
 }

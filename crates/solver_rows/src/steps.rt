@@ -1,34 +1,45 @@
 // Steps that are read, written and judged.
 use crate::questions::fourteen_clauses;
-use clause_store::{Clause, Lit};
+use clause_store::{Clause, ClauseList, Lit};
 use derivation_log::{Chain, Link, Step, StepKind, StepReadStop, read_step, write_step};
+use edge::NoMemory;
 use log_checker::{StepStop, check_step};
 use std::alloc::Global;
 use std::test::Fail;
 
-fn is_claimed(step: &Step) -> bool {
+fn has_parts(step: &Step, kind: StepKind, clause: &[Lit], first: u64, chain: &[Link]) -> bool {
+    step.kind == kind
+        && step.clause.lits() == clause
+        && step.first == first
+        && step.chain.as_slice() == chain
+}
+
+/// Whether a line is read as step 14 with these parts.
+fn is_read_as(
+    alloc: Global,
+    line: &[u8],
+    kind: StepKind,
+    clause: &[Lit],
+    first: u64,
+    chain: &[Link],
+) -> Result<bool, StepReadStop> {
+    let (number, step) = read_step(alloc, line)?;
+    Ok(number == 14 && has_parts(&step, kind, clause, first, chain))
+}
+
+#[test]
+fn step_lines_are_read(rt: HostRuntime) -> Result<(), Fail> {
+    let alloc = rt.alloc();
+    let line = b"step 14 claimed 1 -7 8 0 13 -6 8";
+    let clause = [Lit::positive(1), Lit::negative(7), Lit::positive(8)];
     let link = Link {
         pivot: Lit::negative(6),
         number: 8,
     };
-    step.kind == StepKind::Claimed
-        && step.first == 13
-        && step.clause.lits() == [Lit::positive(1), Lit::negative(7), Lit::positive(8)].as_slice()
-        && step.chain.as_slice() == [link].as_slice()
-}
-
-#[test]
-fn a_step_line_is_read(rt: HostRuntime) -> Result<(), Fail> {
-    let (number, step) = read_step(rt.alloc(), b"step 14 claimed 1 -7 8 0 13 -6 8")?;
-    assert!(rt; number == 14 && is_claimed(&step));
-    Ok(())
-}
-
-#[test]
-fn a_step_of_the_empty_clause_is_read(rt: HostRuntime) -> Result<(), Fail> {
-    let (number, step) = read_step(rt.alloc(), b"step 14 learned 0 3")?;
-    assert!(rt; number == 14 && step.kind == StepKind::Learned && step.first == 3);
-    assert!(rt; step.clause.lits().is_empty() && step.chain.as_slice().is_empty());
+    let is_claimed = is_read_as(alloc, line, StepKind::Claimed, &clause, 13, &[link])?;
+    let line = b"step 14 learned 0 3";
+    let is_learned = is_read_as(alloc, line, StepKind::Learned, &[], 3, &[])?;
+    assert_eq!(rt; (is_claimed, is_learned), (true, true));
     Ok(())
 }
 
@@ -39,82 +50,75 @@ fn stop_of(alloc: Global, line: &[u8]) -> Option<StepReadStop> {
 #[test]
 fn other_lines_are_refused(rt: HostRuntime) {
     let alloc = rt.alloc();
-    assert_eq!(rt;
+    let stops = [
         stop_of(alloc, b"step 14 claimed 1 0"),
-        Some(StepReadStop::Form)
-    );
-    assert_eq!(rt;
         stop_of(alloc, b"step 014 claimed 0 1"),
-        Some(StepReadStop::Form)
-    );
-    assert_eq!(rt;
         stop_of(alloc, b"step 14 claimed -7 1 0 13"),
-        Some(StepReadStop::Unsorted)
-    );
-    assert_eq!(rt;
         stop_of(alloc, b"step 14 claimed 4294967296 1 0 13"),
-        Some(StepReadStop::TooBig)
-    );
+    ];
+    let expected = [
+        Some(StepReadStop::Form),
+        Some(StepReadStop::Form),
+        Some(StepReadStop::Unsorted),
+        Some(StepReadStop::TooBig),
+    ];
+    assert_eq!(rt; stops, expected);
+}
+
+/// Writes a step from clause 13 by no link.
+fn push_step(alloc: Global, text: &mut Vec<u8>) -> Result<(), NoMemory> {
+    let step = Step {
+        kind: StepKind::Learned,
+        clause: Clause::from_lits(alloc, &[Lit::positive(8), Lit::negative(7)])?,
+        first: 13,
+        chain: Chain::from_vec(Vec::new(alloc)),
+    };
+    write_step(14, &step, text)
 }
 
 #[test]
 fn a_step_is_written_as_its_line(rt: HostRuntime) -> Result<(), Fail> {
     let mut text = Vec::new(rt.alloc());
-    let step = Step {
-        kind: StepKind::Learned,
-        clause: Clause::from_lits(rt.alloc(), &[Lit::positive(8), Lit::negative(7)])?,
-        first: 13,
-        chain: Chain::from_vec(Vec::new(rt.alloc())),
-    };
-    write_step(14, &step, &mut text)?;
+    push_step(rt.alloc(), &mut text)?;
     assert_eq!(rt; text.as_slice(), b"step 14 learned -7 8 0 13\n".as_slice());
     Ok(())
 }
 
-/// The answer for a step from clause 13 by one link.
-fn answer(
+/// Why the step of a line does not follow from the known clauses.
+fn refusal_of(
     alloc: Global,
-    clause: &[Lit],
-    pivot: Lit,
-    number: u64,
-) -> Result<Option<StepStop>, Fail> {
+    known: &ClauseList,
+    line: &[u8],
+) -> Result<Option<StepStop>, StepReadStop> {
+    let (_number, step) = read_step(alloc, line)?;
+    Ok(check_step(alloc, known, &step).err())
+}
+
+fn refusals_by(alloc: Global, known: &ClauseList) -> Result<[Option<StepStop>; 5], StepReadStop> {
+    Ok([
+        refusal_of(alloc, known, b"step 14 claimed 1 -7 8 0 13 -6 8")?,
+        refusal_of(alloc, known, b"step 14 claimed 1 -7 8 0 13 -6 14")?,
+        refusal_of(alloc, known, b"step 14 claimed 1 -7 8 0 13 6 8")?,
+        refusal_of(alloc, known, b"step 14 claimed 1 -7 8 0 13 -6 9")?,
+        refusal_of(alloc, known, b"step 14 claimed 1 8 0 13 -6 8")?,
+    ])
+}
+
+/// The answers for steps from clause 13 of the fourteen by one link.
+fn refusals(alloc: Global) -> Result<[Option<StepStop>; 5], StepReadStop> {
     let known = fourteen_clauses(alloc)?;
-    let clause = Clause::from_lits(alloc, clause)?;
-    let link = Link { pivot, number };
-    let step = Step {
-        kind: StepKind::Claimed,
-        clause,
-        first: 13,
-        chain: Chain::from_vec(vec![in alloc; link]?),
-    };
-    Ok(check_step(alloc, &known, &step).err())
+    refusals_by(alloc, &known)
 }
 
 #[test]
 fn a_step_is_judged(rt: HostRuntime) -> Result<(), Fail> {
-    let alloc = rt.alloc();
-    let whole = [Lit::positive(1), Lit::negative(7), Lit::positive(8)];
-    assert_eq!(rt; answer(alloc, &whole, Lit::negative(6), 8)?, None);
-    assert_eq!(rt;
-        answer(alloc, &whole, Lit::negative(6), 14)?,
-        Some(StepStop::NoSuchClause)
-    );
-    assert_eq!(rt;
-        answer(alloc, &whole, Lit::positive(6), 8)?,
-        Some(StepStop::NoPivot(0))
-    );
-    assert_eq!(rt;
-        answer(alloc, &whole, Lit::negative(6), 9)?,
-        Some(StepStop::NoPivot(0))
-    );
-    assert_eq!(rt;
-        answer(
-            alloc,
-            &[Lit::positive(1), Lit::positive(8)],
-            Lit::negative(6),
-            8
-        )?,
-        Some(StepStop::OtherClause)
-    );
+    let expected = [
+        None,
+        Some(StepStop::NoSuchClause),
+        Some(StepStop::NoPivot(0)),
+        Some(StepStop::NoPivot(0)),
+        Some(StepStop::OtherClause),
+    ];
+    assert_eq!(rt; refusals(rt.alloc())?, expected);
     Ok(())
 }
