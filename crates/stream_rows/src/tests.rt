@@ -1,8 +1,11 @@
 // What sources give and sinks take.
+ghost use Rattle.std.specs.Prelude.{◌<◌};
+
 use edge::{
-    MemorySink, MemorySource, PlainSource, ReadStop, Sink, Source, StdSink, StdSource, read_all,
-    send_all,
+    Failed, MemorySink, MemorySource, NoMemory, PlainSource, PlannedSink, ReadStop, Sink, Source,
+    StdSink, StdSource, read_all, send_all,
 };
+use std::alloc::Global;
 use std::io::{self, Cursor, ErrorKind, Read, Write};
 use std::test::Fail;
 
@@ -54,93 +57,167 @@ impl Write for Flushed {
     }
 }
 
+/// How many bytes a source gives up to its end, or what stops it.
+fn count_of<S: Source>(
+    alloc: Global,
+    source: &mut S,
+    limit: Option<usize>,
+) -> Result<usize, ReadStop> {
+    let bytes = read_all(alloc, source, limit)?;
+    Ok(bytes.len())
+}
+
+/// How many bytes of "agent" come in pieces where one read fails, or what stops them.
+fn count_in_pieces(
+    alloc: Global,
+    piece: usize,
+    fail_at: u64,
+    limit: Option<usize>,
+) -> Result<usize, ReadStop>
+    requires { 0 < piece }
+{
+    let bytes = Vec::from_slice(alloc, b"agent").or(Err(ReadStop::NoMemory))?;
+    let mut source = MemorySource::new(bytes, piece, fail_at);
+    count_of(alloc, &mut source, limit)
+}
+
+/// Whether a plain source gives all of "agent".
+fn plain_gives_all(alloc: Global) -> Result<bool, NoMemory> {
+    let mut source = PlainSource::new(Vec::from_slice(alloc, b"agent")?);
+    Ok(gives_agent(alloc, &mut source))
+}
+
+fn gives_agent<S: Source>(alloc: Global, source: &mut S) -> bool {
+    match read_all(alloc, source, None) {
+        Ok(bytes) => bytes.as_slice() == b"agent".as_slice(),
+        Err(_) => false,
+    }
+}
+
 #[test]
 fn reads_to_the_end_the_limit_or_the_fault(rt: HostRuntime) -> Result<(), Fail> {
     let alloc = rt.alloc();
-    let rows = [
-        // piece, the read that fails, limit, and how many bytes come or what stops it
-        (1, 0, None, Ok(5)),
-        (2, 0, Some(5), Ok(5)),
-        (9, 0, Some(4), Err(ReadStop::TooLong)),
-        (2, 2, None, Err(ReadStop::Failed)),
-        (2, 4, None, Err(ReadStop::Failed)),
-        (2, 5, None, Ok(5)),
+    let got = [
+        count_in_pieces(alloc, 1, 0, None),
+        count_in_pieces(alloc, 2, 0, Some(5)),
+        count_in_pieces(alloc, 9, 0, Some(4)),
+        count_in_pieces(alloc, 2, 2, None),
+        count_in_pieces(alloc, 2, 4, None),
+        count_in_pieces(alloc, 2, 5, None),
     ];
-    for (piece, fail_at, limit, want) in rows {
-        let mut source = MemorySource::new(Vec::from_slice(alloc, b"agent")?, piece, fail_at);
-        let got = read_all(alloc, &mut source, limit).map(|bytes| bytes.len());
-        assert_eq!(rt; got, want, "piece {piece}, fails at {fail_at}");
-    }
-    let mut source = PlainSource::new(Vec::from_slice(alloc, b"agent")?);
-    let bytes = read_all(alloc, &mut source, None).or(Err("refused"))?;
-    assert_eq!(rt; bytes.as_slice(), b"agent".as_slice());
+    let want = [
+        Ok(5),
+        Ok(5),
+        Err(ReadStop::TooLong),
+        Err(ReadStop::Failed),
+        Err(ReadStop::Failed),
+        Ok(5),
+    ];
+    assert_eq!(rt; got.as_slice(), want.as_slice());
+    assert!(rt; plain_gives_all(alloc)?);
     Ok(())
+}
+
+/// What three readings to the end give of "agent" where the first read and the third fail.
+fn planned_counts(alloc: Global) -> Result<[Result<usize, ReadStop>; 3], NoMemory> {
+    let bytes = Vec::from_slice(alloc, b"agent")?;
+    let faults = Vec::from_slice(alloc, &[1, 3])?;
+    let mut source = MemorySource::with_faults(bytes, 2, faults);
+    Ok(three_counts(alloc, &mut source))
+}
+
+fn three_counts<S: Source>(alloc: Global, source: &mut S) -> [Result<usize, ReadStop>; 3] {
+    [
+        count_of(alloc, source, None),
+        count_of(alloc, source, None),
+        count_of(alloc, source, None),
+    ]
+}
+
+/// Whether sending "agent" stops after so many bytes, and the sink has taken these then.
+fn stops_after(sink: &mut PlannedSink, count: usize, taken: &[u8]) -> bool {
+    send_all(sink, b"agent") == Err(count) && sink.as_slice() == taken
+}
+
+/// Whether the second write fails, and then one that finds no room.
+fn planned_writes_stop(alloc: Global) -> Result<bool, NoMemory> {
+    let faults = Vec::from_slice(alloc, &[2])?;
+    let mut sink = MemorySink::with_faults(alloc, 6, 2, faults)?;
+    Ok(stops_after(&mut sink, 2, b"ag") && stops_after(&mut sink, 4, b"agagen"))
 }
 
 #[test]
 fn planned_calls_fail(rt: HostRuntime) -> Result<(), Fail> {
     let alloc = rt.alloc();
-    let mut source = MemorySource::with_faults(
-        Vec::from_slice(alloc, b"agent")?,
-        2,
-        Vec::from_slice(alloc, &[1, 3])?,
-    );
-    // The first read and the third fail, and each gives nothing.
-    for want in [Err(ReadStop::Failed), Err(ReadStop::Failed), Ok(3)] {
-        let got = read_all(alloc, &mut source, None).map(|bytes| bytes.len());
-        assert_eq!(rt; got, want);
-    }
-    let mut sink = MemorySink::with_faults(alloc, 6, 2, Vec::from_slice(alloc, &[2])?)?;
-    assert_eq!(rt; send_all(&mut sink, b"agent"), Err(2));
-    assert_eq!(rt; sink.as_slice(), b"ag".as_slice());
-    assert_eq!(rt; send_all(&mut sink, b"agent"), Err(4));
-    assert_eq!(rt; sink.as_slice(), b"agagen".as_slice());
+    // Each read that fails gives nothing.
+    let want = [Err(ReadStop::Failed), Err(ReadStop::Failed), Ok(3)];
+    assert_eq!(rt; planned_counts(alloc)?.as_slice(), want.as_slice());
+    assert!(rt; planned_writes_stop(alloc)?);
     Ok(())
+}
+
+/// What a read of at most five bytes answers, and the bytes that it gives before zeros.
+fn read_piece<S: Source>(source: &mut S) -> (Result<usize, Failed>, [u8; 5]) {
+    let mut piece = [0u8; 5];
+    (source.read(&mut piece), piece)
+}
+
+/// What an output answers to nothing and to "agent".
+fn answers<W: Write>(output: &mut W) -> (Result<usize, Failed>, Result<(), usize>) {
+    let mut sink = StdSink::new(output);
+    (sink.write(b""), send_all(&mut sink, b"agent"))
 }
 
 #[test]
 fn streams_pass_on_what_the_system_gives(rt: HostRuntime) -> Result<(), Fail> {
-    let alloc = rt.alloc();
     let mut source = StdSource::new(Cursor::new(b"atoms a".as_slice()));
-    let mut piece = [0u8; 5];
-    assert_eq!(rt; source.read(&mut piece), Ok(5));
+    let (first, piece) = read_piece(&mut source);
+    let (second, _) = read_piece(&mut source);
+    let (third, _) = read_piece(&mut source);
+    assert_eq!(rt; (first, second, third), (Ok(5), Ok(2), Ok(0)));
     assert_eq!(rt; piece, *b"atoms");
-    assert_eq!(rt; source.read(&mut piece), Ok(2));
-    assert_eq!(rt; source.read(&mut piece), Ok(0));
 
-    let mut text = Vec::new(alloc);
-    let mut sink = StdSink::new(&mut text);
-    assert_eq!(rt; sink.write(b""), Ok(0));
-    assert_eq!(rt; send_all(&mut sink, b"agent"), Ok(()));
-    assert_eq!(rt; text.as_slice(), b"agent".as_slice());
+    let mut text = Vec::new(rt.alloc());
+    let got = answers(&mut text);
+    assert_eq!(rt;
+        (got, text.as_slice()),
+        ((Ok(0), Ok(())), b"agent".as_slice())
+    );
     Ok(())
+}
+
+/// What an output answers that takes at most so many bytes a write, or fails at each, and whose
+/// flush with a number fails; and how many flushes come.
+fn answers_and_flushes(
+    takes: Option<usize>,
+    failing_flush: u32,
+) -> (Result<usize, Failed>, Result<(), usize>, u32) {
+    let mut output = Flushed {
+        takes,
+        flushes: 0,
+        failing_flush,
+    };
+    let (nothing, agent) = answers(&mut output);
+    (nothing, agent, output.flushes)
 }
 
 #[test]
 fn a_stream_is_flushed_after_each_write(rt: HostRuntime) {
-    let rows = [
-        // what a write takes, the flush that fails, what sending answers, and how many flushes come
-        (Some(3), 0, Ok(()), 2),
-        (Some(3), 1, Err(0), 1),
-        (Some(3), 2, Err(3), 2),
-        (Some(0), 0, Err(0), 0),
-        (None, 0, Err(0), 0),
+    let got = [
+        answers_and_flushes(Some(3), 0),
+        answers_and_flushes(Some(3), 1),
+        answers_and_flushes(Some(3), 2),
+        answers_and_flushes(Some(0), 0),
+        answers_and_flushes(None, 0),
     ];
-    for (takes, failing_flush, want, flushes) in rows {
-        let mut output = Flushed {
-            takes,
-            flushes: 0,
-            failing_flush,
-        };
-        let mut sink = StdSink::new(&mut output);
-        assert_eq!(rt; sink.write(b""), Ok(0));
-        assert_eq!(rt; send_all(&mut sink, b"agent"), want, "takes {takes:?}");
-        assert_eq!(rt;
-            output.flushes,
-            flushes,
-            "takes {takes:?}, flush {failing_flush} fails"
-        );
-    }
+    let want = [
+        (Ok(0), Ok(()), 2),
+        (Ok(0), Err(0), 1),
+        (Ok(0), Err(3), 2),
+        (Ok(0), Err(0), 0),
+        (Ok(0), Err(0), 0),
+    ];
+    assert_eq!(rt; got.as_slice(), want.as_slice());
 }
 
 #[test]
@@ -149,11 +226,10 @@ fn a_reader_that_fails_midway_stops_reading(rt: HostRuntime) -> Result<(), Fail>
         left: 5,
         fails_after: Some(2),
     });
-    let got = read_all(rt.alloc(), &mut source, None);
-    assert_eq!(rt; got.map(|bytes| bytes.len()), Err(ReadStop::Failed));
-    // The failed read gave nothing, and three bytes are left.
-    let rest = read_all(rt.alloc(), &mut source, None);
-    assert_eq!(rt; rest.map(|bytes| bytes.len()), Ok(3));
-    assert_eq!(rt; source.read(&mut [0u8; 1]), Ok(0));
+    // The failed read gives nothing, and three bytes are left.
+    let stopped = count_of(rt.alloc(), &mut source, None);
+    let rest = count_of(rt.alloc(), &mut source, None);
+    let end = source.read(&mut [0u8; 1]);
+    assert_eq!(rt; (stopped, rest, end), (Err(ReadStop::Failed), Ok(3), Ok(0)));
     Ok(())
 }
