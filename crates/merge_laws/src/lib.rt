@@ -12,9 +12,6 @@ ghost use Rattle.merge_laws.specs.Postulates.{KeepsToAgreement, KeepsUnderMore, 
 
 use merge_model::{Aggregator, Distance, StrictAggregator};
 
-#[cfg(test)]
-mod tests;
-
 /// IC0: each member of M(c,E) satisfies c.
 pub fn ic0<D: Distance, A: Aggregator>(distance: &D, aggregator: &A)
     ensures { KeepsTheConstraint (merging (D.dist distance.now) (A.rank aggregator.now)) }

@@ -46,7 +46,7 @@ fn stopped(line: u64, stop: LineStop) -> AcceptStop
     }
 }
 
-// Judges a line and stands after it. After a stop the checker is as before the first line.
+// Judges a line and stands after it.
 fn advance(checker: &mut Checker, alloc: Global, line: &[u8]) -> Result<(), LineStop>
     requires over { IsOver checker.old → ⊥ }
     requires fit { IsFit checker.old }

@@ -68,7 +68,8 @@ fn is_at_one_at_most(best: &Best) -> bool {
     let satisfies_third = best.shown.model.bits % 2 == 1;
     matches!(best.measure.as_slice(), [1])
         && matches!(best.values.as_slice(), [1])
-        && matches!(best.shown.vector.as_slice(), [_, _, away] if *away == u32::from(!satisfies_third))
+        && matches!(best.shown.vector.as_slice(), [_, _, third]
+            if *third == u32::from(!satisfies_third))
         && matches!(best.far.as_slice(), [_, _, far] if far.is_none() == satisfies_third)
 }
 

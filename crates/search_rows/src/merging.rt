@@ -1,3 +1,4 @@
+// Worked merges by way of all valuations.
 use merge_model::{AggregatorName, Answer, DistanceName, Problem, Verdict, merge_named};
 use problem_reading::read_problem;
 use std::alloc::Global;
