@@ -1,11 +1,11 @@
 // A list of clauses in one flat list of literals.
-ghost use Rattle.std.specs.Prelude.{◌≡◌, ◌+◌, ◌^◌, ◌<◌, ◌≤◌, [], ◌∷◌, ◌++◌, length, slice_get};
+ghost use Rattle.std.specs.Prelude.{◌≡◌, ◌+◌, ◌<◌, ◌≤◌, [], ◌∷◌, ◌++◌, length, slice_get};
 ghost use Rattle.std.specs.Prelude.{Some, IfOk, OnOk, OnErr, take, drop};
 ghost use Rattle.clause_store.specs.Keeping.{kept_of};
 ghost use Rattle.clause_store.specs.Lits.{Ascends, InRange, positive_lit, sorted_clause};
 ghost use Rattle.clause_store.specs.Clauses.{cut, Rise, start_at};
 ghost use Rattle.clause_store.specs.Fresh.{fresh_lits, fresh_vars};
-ghost use Rattle.clause_store.specs.Limits.{clause_limit, var_limit};
+ghost use Rattle.clause_store.specs.Limits.{clause_limit, literal_limit, var_limit};
 
 use crate::clause::Clause;
 use crate::lit::Lit;
@@ -23,16 +23,16 @@ pub struct ClauseList {
 }
 
 impl Model for ClauseList {
-    ghost use Rattle.std.specs.Prelude.{◌≡◌, ◌<◌, ◌≤◌, ◌^◌, length};
+    ghost use Rattle.std.specs.Prelude.{◌≡◌, ◌<◌, ◌≤◌, length};
     ghost use Rattle.clause_store.specs.Clauses.{Clauses, cut, Rise, IsWhole};
-    ghost use Rattle.clause_store.specs.Limits.{var_limit};
+    ghost use Rattle.clause_store.specs.Limits.{literal_limit, var_limit};
 
     ghost Value = { Clauses };
 
     ghost view = { λ a. record { list = cut 0 a.ends.items a.lits.items; vars = a.vars } };
 
     ghost invariant = { λ a. Rise 0 a.ends.items (length a.lits.items) ×
-        (length a.lits.items < 2 ^ 32) × (a.vars ≤ var_limit) × IsWhole
+        (length a.lits.items < literal_limit) × (a.vars ≤ var_limit) × IsWhole
         (record { list = cut 0 a.ends.items a.lits.items; vars = a.vars }) };
 }
 
@@ -123,7 +123,7 @@ impl ClauseList {
     }
 
     /// Appends the clause of these literals and answers its number. `NoMemory` also comes where the
-    /// list would hold 2^32 literals.
+    /// list would hold `literal_limit` literals.
     pub fn add(&mut self, lits: &[Lit]) -> Result<u64, NoMemory>
         requires in_range { InRange self.old.vars lits.now }
         ensures number { IfOk result (λ k. k ≡ length self.old.list) }
@@ -138,7 +138,7 @@ impl ClauseList {
     }
 
     /// Appends a clause and answers its number. `NoMemory` also comes where the list would hold
-    /// 2^32 literals.
+    /// `literal_limit` literals.
     pub fn add_clause(&mut self, clause: &Clause) -> Result<u64, NoMemory>
         requires in_range { InRange self.old.vars clause.now }
         ensures number { IfOk result (λ k. k ≡ length self.old.list) }
@@ -189,7 +189,7 @@ impl ClauseList {
 fn pack(lits: &mut Vec<Lit>, ends: &mut Vec<u32>, from: usize, marks: &[bool])
     requires rise { Rise 0 ends.old.items (length lits.old.items) }
     requires whole { from + length marks.now ≡ length ends.old.items }
-    requires few { length lits.old.items < 2 ^ 32 }
+    requires few { length lits.old.items < literal_limit }
     ensures rise { Rise 0 ends.new.items (length lits.new.items) }
     ensures shorter { length lits.new.items ≤ length lits.old.items }
     ensures kept { cut 0 ends.new.items lits.new.items ≡

@@ -1,5 +1,5 @@
 -- Each step of a log whose steps follow has a line.
-use Rattle.std.proofs.Common.{◌≡◌, ℕ, ◌+◌, ◌-◌, ◌^◌, ◌<◌, ◌≤◌, true, List, [], ◌∷◌, ◌++◌, length, sym, subst, arith, zero, suc, Some, inl, inr, append_assoc, length-append}
+use Rattle.std.proofs.Common.{◌≡◌, ℕ, ◌+◌, ◌-◌, ◌<◌, ◌≤◌, true, List, [], ◌∷◌, ◌++◌, length, sym, subst, arith, zero, suc, Some, inl, inr, append_assoc, length-append}
 use Rattle.std.specs.Prelude.{slice_get}
 use Rattle.std.specs.List.{AllByRecursion}
 use Rattle.std.proofs.lemmas.Option.{slice_get_within}
@@ -14,7 +14,7 @@ use Rattle.clause_store.specs.Limits.{var_limit, clause_limit}
 use Rattle.derivation_log.specs.declared.step.Link.{Link}
 use Rattle.derivation_log.specs.declared.step.Step.{Step}
 use Rattle.derivation_log.specs.Logs.{Log, clauses_of, known_of, Comes, Follows, IsSound}
-use Rattle.derivation_log.specs.StepLines.{HasLine}
+use Rattle.derivation_log.specs.StepLines.{HasLine, number_limit}
 
 has_within : (v : ℕ) (l : Lit) (c : List Lit) → InRange v c → has l c ≡ true → IsWithin v l
 has_within v l [] r h = absurd (cc)
@@ -24,12 +24,12 @@ has_within v l (m ∷ ms) r h =
       | inr s ↦ has_within v l ms r.1 s
     ]
 
-lits_fit : (v : ℕ) (c : List Lit) → v ≤ var_limit → InRange v c → AllByRecursion (λ l. (1 ≤ l.var) × (l.var < 2 ^ 32)) c
+lits_fit : (v : ℕ) (c : List Lit) → v ≤ var_limit → InRange v c → AllByRecursion (λ l. (1 ≤ l.var) × (l.var < number_limit)) c
 lits_fit v [] few r = tt
 lits_fit v (l ∷ ls) few r = ((r.0.0, omega (arith, r.0.1)), lits_fit v ls few r.1)
 
 -- the negation of a pivot stands in a known clause
-pivots_fit : (v : ℕ) (known : List (List Lit)) (running : List Lit) (links : List Link) (end : List Lit) → v ≤ var_limit → AreInRange v known → Comes known running links end → AllByRecursion (λ (l : Link). (1 ≤ l.pivot.var) × (l.pivot.var < 2 ^ 32)) links
+pivots_fit : (v : ℕ) (known : List (List Lit)) (running : List Lit) (links : List Link) (end : List Lit) → v ≤ var_limit → AreInRange v known → Comes known running links end → AllByRecursion (λ (l : Link). (1 ≤ l.pivot.var) × (l.pivot.var < number_limit)) links
 pivots_fit v known running [] end few r h = tt
 pivots_fit v known running (l ∷ ls) end few r h =
     let w : IsWithin v (negated l.pivot) = has_within v (negated l.pivot) h.0 (each_at (InRange v) known l.number h.0 r h.1) h.3 in

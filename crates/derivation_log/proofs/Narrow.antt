@@ -1,6 +1,6 @@
 -- Steps and the wide literals that their lines spell.
-use Rattle.std.proofs.Common.{◌≡◌, ℕ, ◌+◌, ◌*◌, ◌^◌, ◌<◌, ◌≤◌, ◌==◌, Bool, true, false, not, cond, ◌&&◌, ◌||◌, List, [], ◌∷◌, ◌++◌, map, codes, decimal, Ok, Err, refl, ap, sym, subst, ◌∙◌, arith}
-use Rattle.std.specs.Prelude.{nat_lt}
+use Rattle.std.proofs.Common.{◌≡◌, ℕ, ◌+◌, ◌*◌, ◌<◌, ◌≤◌, ◌==◌, Bool, true, false, not, cond, ◌&&◌, ◌||◌, List, [], ◌∷◌, ◌++◌, map, codes, decimal, Ok, Err, refl, ap, sym, subst, ◌∙◌, arith}
+use Rattle.std.specs.Prelude.{nat_lt, nat_le}
 use Rattle.std.specs.List.{flat_map, AllByRecursion}
 use Rattle.std.proofs.lemmas.Bool.Decides.{nat_tests}
 use Rattle.std.proofs.lemmas.List.Folds.{flat_map-map}
@@ -16,7 +16,7 @@ use Rattle.derivation_log.specs.declared.step.Link.{Link}
 use Rattle.derivation_log.specs.declared.step.Step.{Step}
 use Rattle.derivation_log.specs.declared.step.StepKind.{StepKind}
 use Rattle.derivation_log.specs.declared.reading.StepReadStop.TheVariants.{Form, TooBig, Unsorted, NoMemory}
-use Rattle.derivation_log.specs.StepLines.{StepLine, IsLink, IsStepLine, IsReading, HasLine, widen, widen_link, step_line, step_words, kind_word, link_words, is_big, any_big, any_big_pivot, has_big, is_before, rises_after, rises}
+use Rattle.derivation_log.specs.StepLines.{StepLine, IsLink, IsStep, IsStepLine, IsReading, HasLine, widen, widen_link, step_line, step_words, kind_word, link_words, is_big, any_big, any_big_pivot, has_big, number_limit, is_before, rises_after, rises}
 use Rattle.derivation_log.specs.LineLaws.{ReadBackLaw}
 use Rattle.derivation_log.proofs.StepLaws.{one, put_all}
 
@@ -49,7 +49,7 @@ after_rises : (a : Lit) (ls : List Lit) → Ascends (a ∷ ls) → rises_after (
 after_rises a [] s = refl
 after_rises a (b ∷ ls) s = and_both (is_before (widen a) (widen b)) (rises_after (widen b) (map widen ls)) (rank_before a.var b.var a.positive b.positive s.0.0) (after_rises b ls s.1)
 
-ascends_rises : (ls : List Lit) → Ascends ls → rises (map widen ls) ≡ true
+pub ascends_rises : (ls : List Lit) → Ascends ls → rises (map widen ls) ≡ true
 ascends_rises [] s = refl
 ascends_rises (a ∷ ls) s = after_rises a ls s
 
@@ -103,33 +103,36 @@ line_once n m s t e = pair_is n m s.kind t.kind s.clause t.clause s.first t.firs
     (ap (λ (x : StepLine). x.first) e)
     (sym (narrow_links s.chain) ∙ ap (λ (x : StepLine). map narrow_link x.chain) e ∙ narrow_links t.chain)
 
-lits_literal : (ls : List Lit) → AllByRecursion (λ l. (1 ≤ l.var) × (l.var < 2 ^ 32)) ls → AllByRecursion IsLiteral (map widen ls)
+lits_literal : (ls : List Lit) → AllByRecursion (λ l. (1 ≤ l.var) × (l.var < number_limit)) ls → AllByRecursion IsLiteral (map widen ls)
 lits_literal [] h = tt
 lits_literal (l ∷ ls) h = (record { low = h.0.0; high = omega (arith, h.0.1) }, lits_literal ls h.1)
 
-links_link : (ls : List Link) → AllByRecursion (λ l. (1 ≤ l.pivot.var) × (l.pivot.var < 2 ^ 32)) ls → AllByRecursion (λ l. HasNumeral l.number) ls → AllByRecursion IsLink (map widen_link ls)
+links_link : (ls : List Link) → AllByRecursion (λ l. (1 ≤ l.pivot.var) × (l.pivot.var < number_limit)) ls → AllByRecursion (λ l. HasNumeral l.number) ls → AllByRecursion IsLink (map widen_link ls)
 links_link [] p h = tt
 links_link (l ∷ ls) p h = (record { pivot = record { low = p.0.0; high = omega (arith, p.0.1) }; number = h.0 }, links_link ls p.1 h.1)
 
+pub line_is_step : (n : ℕ) (s : Step) → HasLine n s → IsStep (step_line n s)
+line_is_step n s h = record { number = h.number; clause = lits_literal s.clause h.clause; first = h.first; chain = links_link s.chain h.pivots h.links }
+
 has_line : (n : ℕ) (s : Step) → HasLine n s → IsStepLine (line_of (step_words (step_line n s))) (step_line n s)
-has_line n s h = record { is_step = record { number = h.number; clause = lits_literal s.clause h.clause; first = h.first; chain = links_link s.chain h.pivots h.links }; spelled = refl }
+has_line n s h = record { is_step = line_is_step n s h; spelled = refl }
 
 or_false : (x y : Bool) → x ≡ false → y ≡ false → (x || y) ≡ false
 or_false true y e f = absurd (cc)
 or_false false y e f = f
 
-small : (n : ℕ) → n < 2 ^ 32 → nat_lt 4294967295 n ≡ false
+small : (n : ℕ) → n < number_limit → nat_le number_limit n ≡ false
 small n h = grind (arith, nat_tests)
 
-lits_small : (ls : List Lit) → AllByRecursion (λ l. (1 ≤ l.var) × (l.var < 2 ^ 32)) ls → any_big (map widen ls) ≡ false
+lits_small : (ls : List Lit) → AllByRecursion (λ l. (1 ≤ l.var) × (l.var < number_limit)) ls → any_big (map widen ls) ≡ false
 lits_small [] h = refl
 lits_small (l ∷ ls) h = or_false (is_big (widen l)) (any_big (map widen ls)) (small l.var h.0.1) (lits_small ls h.1)
 
-links_small : (ls : List Link) → AllByRecursion (λ l. (1 ≤ l.pivot.var) × (l.pivot.var < 2 ^ 32)) ls → any_big_pivot (map widen_link ls) ≡ false
+links_small : (ls : List Link) → AllByRecursion (λ l. (1 ≤ l.pivot.var) × (l.pivot.var < number_limit)) ls → any_big_pivot (map widen_link ls) ≡ false
 links_small [] h = refl
 links_small (l ∷ ls) h = or_false (is_big (widen l.pivot)) (any_big_pivot (map widen_link ls)) (small l.pivot.var h.0.1) (links_small ls h.1)
 
-step_small : (n : ℕ) (s : Step) → HasLine n s → has_big (step_line n s) ≡ false
+pub step_small : (n : ℕ) (s : Step) → HasLine n s → has_big (step_line n s) ≡ false
 step_small n s h = or_false (any_big (map widen s.clause)) (any_big_pivot (map widen_link s.chain)) (lits_small s.clause h.clause) (links_small s.chain h.pivots)
 
 pub back : ReadBackLaw

@@ -1,5 +1,5 @@
 -- What a step line says, and how it is written.
-use Rattle.std.specs.Prelude.{◌≡◌, ℕ, ◌≤◌, ◌<◌, ◌^◌, ◌==◌, Bool, true, false, ◌&&◌, ◌||◌, not, nat_lt, List, [], ◌∷◌, ◌++◌, map, codes, decimal, Result, Ok, Err}
+use Rattle.std.specs.Prelude.{◌≡◌, ℕ, ◌≤◌, ◌<◌, ◌^◌, ◌==◌, Bool, true, false, ◌&&◌, ◌||◌, not, nat_lt, nat_le, List, [], ◌∷◌, ◌++◌, map, codes, decimal, Result, Ok, Err}
 use Rattle.std.specs.List.{flat_map, AllByRecursion}
 use Rattle.report_words.specs.declared.numbers.WideLit.{WideLit}
 use Rattle.report_words.specs.Numbers.{HasNumeral, IsLiteral, literal_word}
@@ -57,9 +57,13 @@ pub record IsStep (s : StepLine) : Type 0 where
   pub first : HasNumeral s.first
   pub chain : AllByRecursion IsLink s.chain
 
--- a literal with a number above 4,294,967,295
+-- variables are numbered below it
+abbrev pub number_limit : ℕ
+number_limit = 2 ^ 32
+
+-- a literal with a number that is too great
 abbrev pub is_big : WideLit → Bool
-is_big l = nat_lt 4294967295 l.var
+is_big l = nat_le number_limit l.var
 
 abbrev pub any_big : List WideLit → Bool
 any_big [] = false
@@ -101,7 +105,7 @@ IsReading line (Err stops.NoMemory) = Unit {0}
 -- a step that has a line: the literals are of variables, and the numbers have at most 19 digits
 pub record HasLine (n : ℕ) (s : Step) : Type 0 where
   pub number : HasNumeral n
-  pub clause : AllByRecursion (λ l. (1 ≤ l.var) × (l.var < 2 ^ 32)) s.clause
+  pub clause : AllByRecursion (λ l. (1 ≤ l.var) × (l.var < number_limit)) s.clause
   pub first : HasNumeral s.first
-  pub pivots : AllByRecursion (λ link. (1 ≤ link.pivot.var) × (link.pivot.var < 2 ^ 32)) s.chain
+  pub pivots : AllByRecursion (λ link. (1 ≤ link.pivot.var) × (link.pivot.var < number_limit)) s.chain
   pub links : AllByRecursion (λ link. HasNumeral link.number) s.chain

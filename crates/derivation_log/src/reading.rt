@@ -1,9 +1,9 @@
 // Reading a step line.
-ghost use Rattle.std.specs.Prelude.{◌≡◌, ◌<◌, ◌^◌, Some, None, false, IfOk, MatchOption, map};
+ghost use Rattle.std.specs.Prelude.{◌≡◌, ◌<◌, Some, None, false, IfOk, MatchOption, map};
 ghost use Rattle.std.specs.Prelude.{if◌then◌else◌};
 ghost use Rattle.report_words.specs.Words.{words_of};
 ghost use Rattle.derivation_log.specs.StepLines.{seen, any_big, any_big_pivot, is_before, rises};
-ghost use Rattle.derivation_log.specs.StepLines.{widen, widen_link, IsReading};
+ghost use Rattle.derivation_log.specs.StepLines.{widen, widen_link, number_limit, IsReading};
 ghost use Rattle.derivation_log.specs.StepReading.{Takes, number_then, word_then, kind_at};
 ghost use Rattle.derivation_log.specs.StepReading.{kind_then, lits_then, links_at, step_at};
 ghost use Rattle.derivation_log.specs.declared.reading.StepReadStop.TheVariants.{NoMemory as OutOfMemory};
@@ -15,13 +15,16 @@ use edge::NoMemory;
 use report_words::{WideLit, Words, literal_of, number_of};
 use std::alloc::{AllocError, AllocFailed, Global};
 
+// Variables are numbered below it.
+const NUMBER_LIMIT: u64 = 1 << 32;
+
 /// Why a line is not read as a step.
 #[derive(Clone, Copy, Debug, PartialEq, Eq)]
 pub enum StepReadStop {
     /// The line is no step line.
     Form,
-    /// It is a step line in which a literal of the clause or of a link has a number above
-    /// 4,294,967,295.
+    /// It is a step line in which a literal of the clause or of a link has a number of 2^32 or
+    /// more.
     TooBig,
     /// It is a step line without such a literal whose clause literals are not sorted and distinct.
     Unsorted,
@@ -179,7 +182,7 @@ fn has_big_literal(lits: &[WideLit]) -> bool
     ensures { result ≡ any_big lits.now }
 {
     for lit in lits {
-        if lit.var > 4_294_967_295 {
+        if lit.var >= NUMBER_LIMIT {
             return true;
         }
     }
@@ -190,7 +193,7 @@ fn has_big_pivot(links: &[WideLink]) -> bool
     ensures { result ≡ any_big_pivot links.now }
 {
     for link in links {
-        if link.pivot.var > 4_294_967_295 {
+        if link.pivot.var >= NUMBER_LIMIT {
             return true;
         }
     }
@@ -220,7 +223,7 @@ fn is_rising(lits: &[WideLit]) -> bool
 }
 
 fn small_lit(lit: WideLit) -> Lit
-    requires { lit.var < 2 ^ 32 }
+    requires { lit.var < number_limit }
     ensures { widen result ≡ lit }
 {
     Lit {

@@ -1,17 +1,14 @@
 -- The tokens of a word that ends, and of the names of atoms.
-use Rattle.std.proofs.Common.{◌≡◌, ◌≢◌, ℕ, ◌+◌, ◌<◌, Bool, true, false, not, ◌&&◌, ◌||◌, List, [], ◌∷◌, ◌++◌, length, cond, refl, ap, ◌∙◌, arith, suc, zero}
+use Rattle.std.proofs.Common.{◌≡◌, ◌≢◌, ℕ, ◌+◌, ◌<◌, Bool, true, false, not, ◌||◌, List, [], ◌∷◌, ◌++◌, length, cond, refl, ap, ◌∙◌, arith, suc, zero}
 use Rattle.std.specs.List.{list_all, list_any, position_or_len}
 use Rattle.std.specs.Str.{bytes_eq}
 use Rattle.std.proofs.lemmas.Slice.Eq.{bytes_eq-Decides}
+use Rattle.report_words.proofs.Numerals.{both_true}
 use Rattle.formulas.specs.Names.{is_word_byte, is_name, is_plain_name, is_reserved, are_names, are_distinct}
 use Rattle.formula_text.specs.CanonicalText.{name_of}
 use Rattle.line_tokens.specs.Bytes.{is_bad, starts_word}
 use Rattle.line_tokens.specs.Lexemes.{word, lexemes_of, with_word_byte}
 use Rattle.line_tokens.proofs.Words.{if_true, word_not_bad}
-
-both_true : (a b : Bool) → (a && b) ≡ true → (a ≡ true) × (b ≡ true)
-both_true true b h = (refl, h)
-both_true false b h = absurd (cc)
 
 -- a word and then a text that does not go on with it
 pub word_then : (b : ℕ) (w rest : List ℕ) → list_all is_word_byte (b ∷ w) ≡ true → starts_word rest ≡ false →

@@ -9,6 +9,7 @@ mod valuation;
 pub use formula::Formula;
 pub use limits::{
     AGENT_LIMIT, ASK_LIMIT, ATOM_LIMIT, DEPTH_LIMIT, NAME_LIMIT, NODE_LIMIT, TIMES_LIMIT,
+    VALUATION_LIMIT,
 };
 pub use names::{Atoms, is_name, is_plain_name, is_reserved, is_word_byte};
 pub use valuation::Valuation;

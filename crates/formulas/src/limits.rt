@@ -6,6 +6,9 @@ pub const NAME_LIMIT: usize = 64;
 /// The most atoms.
 pub const ATOM_LIMIT: u32 = 32;
 
+/// The most atoms of a valuation.
+pub const VALUATION_LIMIT: usize = 64;
+
 /// The greatest depth of a formula.
 pub const DEPTH_LIMIT: u8 = 128;
 

@@ -5,7 +5,7 @@ ghost use Rattle.formulas.specs.Words.{truth_at, word_of, IsNext, IsBefore};
 
 use std::marker::Model;
 
-/// The truth values of 0 to 64 atoms, seen as their list from atom 0 on.
+/// The truth values of 0 to `VALUATION_LIMIT` atoms, seen as their list from atom 0 on.
 ///
 /// `bits` is below `2 ^ atoms`, and atom 0 is its highest bit. So valuations of one number of
 /// atoms compare as the words of their truth values do, with false before true.
@@ -14,7 +14,7 @@ use std::marker::Model;
 pub struct Valuation {
     /// The truth values as a number, that of atom 0 as the highest bit.
     pub bits: u64,
-    /// The number of atoms, from 0 to 64.
+    /// The number of atoms, from 0 to `VALUATION_LIMIT`.
     pub atoms: u32,
 }
 

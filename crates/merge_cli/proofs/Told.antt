@@ -162,6 +162,14 @@ accepted_at_end : (now : Option (List ℕ)) (read : List ℕ) (status : ℕ) (te
 accepted_at_end now read s text k (at_end end row) says = end
 accepted_at_end now read s text k (early line l first status said) says = absurd (says_refused line l k (sym said ∙ says))
 
+-- what is sent with the status of a reply answers as the reply does
+pub as_sent : (words : List (List ℕ)) (before now : Option (List ℕ)) (room_before room_now wanted : ℕ) (said : List ℕ) (status : ℕ) (text : List ℕ)
+    → Answered (Answers words) before now room_before room_now wanted said → (status ≢ 5 → status ≡ wanted) → text ≡ said
+    → status ≢ 5 → Answered (Answers words) before now room_before room_now status text
+as_sent words before now room_before room_now wanted said status text answered of same unless =
+    let there = subst (λ (s : ℕ). Answered (Answers words) before now room_before room_now s said) (sym (of unless)) answered in
+    subst (λ (t : List ℕ). Answered (Answers words) before now room_before room_now status t) (sym same) there
+
 -- what a whole run says
 module _ (words : List (List ℕ)) (before now : Option (List ℕ)) (room_before room_now status : ℕ) (text : List ℕ)
     (answered : Answered (Answers words) before now room_before room_now status text) where

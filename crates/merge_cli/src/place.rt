@@ -1,9 +1,10 @@
 // Where a list begins.
 ghost use Rattle.std.specs.Prelude.{◌≡◌, ◌≤◌, ◌∷◌, [], IfSome, IfNone, All, IsTrue, ◌↔◌, drop};
 ghost use Rattle.std.specs.Prelude.{length, map};
+ghost use Rattle.formulas.specs.Limits.{valuation_limit};
 
 use edge::Words;
-use formulas::Valuation;
+use formulas::{VALUATION_LIMIT, Valuation};
 use merge_model::Problem;
 
 /// Where a list of closest valuations begins.
@@ -67,7 +68,7 @@ fn place_of(word: &str) -> Option<Place>
     if digits.is_empty() || !are_truth_digits(digits) {
         return None;
     }
-    if digits.len() > 64 {
+    if digits.len() > VALUATION_LIMIT {
         return Some(Place::TooLong);
     }
     Some(Place::Above(valuation_of(digits)))
@@ -81,7 +82,7 @@ fn are_truth_digits(digits: &[u8]) -> bool
 
 // The valuation that is true where a digit is `1`.
 fn valuation_of(digits: &[u8]) -> Valuation
-    requires { length digits.now ≤ 64 }
+    requires { length digits.now ≤ valuation_limit }
     ensures { result ≡ map is_one digits.now }
 {
     let mut valuation = Valuation::new(0, digits.len() as u32);

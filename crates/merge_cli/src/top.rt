@@ -103,6 +103,33 @@ fn reply<S: Source>(alloc: Global, words: &Words, source: &mut S) -> Result<Repl
     }
 }
 
+// Sends a reply. A write that fails ends the sending.
+fn send<K: Sink>(reply: Reply, sink: &mut K) -> Outcome
+    requires { reply.status ≢ 5 }
+    ensures text { result.text.items ≡ reply.text.items }
+    ensures status { result.status ≢ 5 → result.status ≡ reply.status }
+    ensures write_fault { result.status ≡ 5
+        → (result.sent < length result.text.items) × Rose (K.faults sink.old) (K.faults sink.new) }
+    ensures sent { Appends (K.taken sink.old) (K.taken sink.new)
+        (take result.sent result.text.items) }
+    ensures whole { result.status ≢ 5 → result.sent ≡ length result.text.items }
+    ensures faults { K.faults sink.old ≤ K.faults sink.new }
+    ensures quiet { result.status ≢ 5 → K.faults sink.new ≡ K.faults sink.old }
+{
+    let Reply { status, text } = reply;
+    match send_all(sink, text.as_slice()) {
+        Ok(()) => {
+            let sent = text.len();
+            Outcome { status, text, sent }
+        }
+        Err(sent) => Outcome {
+            status: WRITE_FAULT,
+            text,
+            sent,
+        },
+    }
+}
+
 /// Does all that the program does: answers what the words ask of the text in the source, and sends
 /// the answer to the sink. The statuses, in the order in which they are looked for:
 ///
@@ -295,17 +322,7 @@ pub fn run<S: Source, K: Sink>(
     ensures quiet_sink { result.status ≢ 5 → K.faults sink.new ≡ K.faults sink.old }
 {
     match reply(alloc, words, source) {
-        Ok(Reply { status, text }) => match send_all(sink, text.as_slice()) {
-            Ok(()) => {
-                let sent = text.len();
-                Outcome { status, text, sent }
-            }
-            Err(sent) => Outcome {
-                status: WRITE_FAULT,
-                text,
-                sent,
-            },
-        },
+        Ok(reply) => send(reply, sink),
         Err(Stop::Failed) => Outcome {
             status: READ_FAULT,
             text: Vec::new(alloc),

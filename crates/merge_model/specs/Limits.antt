@@ -1,10 +1,14 @@
--- When the parts of a problem keep its limits.
+-- When the parts of a problem keep its limits, and the limit of merging by enumeration.
 use Rattle.std.specs.Prelude.{◌≡◌, ℕ, ◌+◌, ◌≤◌, List, length, map, sum_by, All, true}
 use Rattle.formulas.specs.declared.formula.Formula.{Formula}
 use Rattle.formulas.specs.Formulas.{nodes_of, depth_of, width_of}
 use Rattle.formulas.specs.Limits.{atom_limit, depth_limit, node_limit, agent_limit, times_limit, ask_limit}
 use Rattle.formulas.specs.Names.{AtomList, are_names, names_of}
 use Rattle.merge_model.specs.declared.agent.Agent.{Agent}
+
+-- the most atoms of a problem that is merged by going through all valuations
+abbrev pub enumeration_limit : ℕ
+enumeration_limit = 8
 
 -- a formula over n atoms that is not too deep
 pub record IsWithin (n : ℕ) (formula : Formula) : Type 0 where

@@ -66,7 +66,8 @@ pub trait Aggregator {
 }
 
 /// An aggregator by which a better part makes the joined list better. The law says it by its
-/// contraposition: where the joined lists tie, both parts do.
+/// contraposition: where the joined lists tie, both parts do. By `ranks::better_law` a list is
+/// better exactly where the other is not no worse.
 pub trait StrictAggregator: Aggregator {
     /// Where no part is worse and the joined lists tie, both parts tie.
     ghost strict: { (a : Self) (u w s t : List ℕ) →

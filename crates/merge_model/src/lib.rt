@@ -22,7 +22,7 @@ pub use distance::{Distance, Drastic, Hamming};
 pub use full::full_vector;
 pub use maximum::Max;
 pub use operator::{AggregatorName, DistanceName};
-pub use plain::{merge_named, merge_plainly};
+pub use plain::{ENUMERATION_LIMIT, merge_named, merge_plainly};
 pub use problem::Problem;
 pub use sequence::Sequence;
 pub use sorted::Leximax;

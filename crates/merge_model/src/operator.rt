@@ -26,9 +26,17 @@ impl DistanceName {
         ensures some { IfSome result (λ name. word.now ≡ distance_word name) }
         ensures none { IfNone result ((name : _) → word.now ≢ distance_word name) }
     {
+        DistanceName::of_bytes(word.as_bytes())
+    }
+
+    /// The distance whose word these bytes are, or `None` where none has them.
+    pub fn of_bytes(word: &[u8]) -> Option<DistanceName>
+        ensures some { IfSome result (λ name. word.now ≡ distance_word name) }
+        ensures none { IfNone result ((name : _) → word.now ≢ distance_word name) }
+    {
         match word {
-            "drastic" => Some(DistanceName::Drastic),
-            "hamming" => Some(DistanceName::Hamming),
+            b"drastic" => Some(DistanceName::Drastic),
+            b"hamming" => Some(DistanceName::Hamming),
             _ => None,
         }
     }
@@ -62,10 +70,18 @@ impl AggregatorName {
         ensures some { IfSome result (λ name. word.now ≡ aggregator_word name) }
         ensures none { IfNone result ((name : _) → word.now ≢ aggregator_word name) }
     {
+        AggregatorName::of_bytes(word.as_bytes())
+    }
+
+    /// The aggregator whose word these bytes are, or `None` where none has them.
+    pub fn of_bytes(word: &[u8]) -> Option<AggregatorName>
+        ensures some { IfSome result (λ name. word.now ≡ aggregator_word name) }
+        ensures none { IfNone result ((name : _) → word.now ≢ aggregator_word name) }
+    {
         match word {
-            "sum" => Some(AggregatorName::Sum),
-            "max" => Some(AggregatorName::Max),
-            "leximax" => Some(AggregatorName::Leximax),
+            b"sum" => Some(AggregatorName::Sum),
+            b"max" => Some(AggregatorName::Max),
+            b"leximax" => Some(AggregatorName::Leximax),
             _ => None,
         }
     }

@@ -3,6 +3,7 @@
 
 ghost use Rattle.std.specs.Prelude.{◌≤◌, ◌↔◌, ◌⊎◌, length, IfOk};
 ghost use Rattle.merge_model.specs.Answers.{dist_named, rank_named, profile_of, IsRight, IsNamed};
+ghost use Rattle.merge_model.specs.Limits.{enumeration_limit};
 ghost use Rattle.merge_model.specs.Merging.{LacksModel};
 
 mod judged;
@@ -23,7 +24,11 @@ use std::alloc::Global;
 use tables::{base_models, models};
 use walk::Walk;
 
-/// Merges a problem of at most 8 atoms by going through all valuations; `NoMemory` for want of it.
+/// The most atoms of a problem that is merged by going through all valuations.
+pub const ENUMERATION_LIMIT: usize = 8;
+
+/// Merges a problem of at most `ENUMERATION_LIMIT` atoms by going through all valuations;
+/// `NoMemory` for want of memory.
 ///
 /// The answer is `Merged` and right by the definitions, or `Inconsistent` exactly where the
 /// constraint or a base has no model, and then it names a model of each formula that has one. It is
@@ -34,7 +39,7 @@ pub fn merge_plainly<D: Distance, A: Aggregator>(
     aggregator: &A,
     problem: &Problem,
 ) -> Result<Answer, NoMemory>
-    requires { length problem.now.atoms ≤ 8 }
+    requires { length problem.now.atoms ≤ enumeration_limit }
     ensures answer { IfOk result
         (λ answer. IsRight (D.dist distance.now) (A.rank aggregator.now) problem.now answer
         ⊎ IsNamed problem.now answer) }
@@ -61,7 +66,7 @@ pub fn merge_named(
     aggregator: AggregatorName,
     problem: &Problem,
 ) -> Result<Answer, NoMemory>
-    requires { length problem.now.atoms ≤ 8 }
+    requires { length problem.now.atoms ≤ enumeration_limit }
     ensures answer { IfOk result
         (λ answer. IsRight (dist_named distance problem.now.atoms)
         (rank_named aggregator) problem.now answer

@@ -5,6 +5,7 @@ use Rattle.std.specs.Str.{bytes_eq}
 use Rattle.std.proofs.lemmas.Bool.Decides.{nat_tests}
 use Rattle.std.proofs.lemmas.List.Folds.{list_any-append, list_all-append}
 use Rattle.std.proofs.lemmas.Slice.Eq.{bytes_eq-Decides}
+use Rattle.report_words.proofs.Numerals.{both_true}
 use Rattle.formulas.specs.Names.{is_name, is_plain_name, is_reserved, are_distinct, are_names}
 use Rattle.formulas.proofs.NameViews.{names_added}
 use Rattle.formulas.specs.Limits.{atom_limit, name_limit}
@@ -56,10 +57,6 @@ pub distinct_not : (names rest : List (List ℕ)) (name : List ℕ) → list_any
 distinct_not [] rest name h = absurd (cc)
 distinct_not (n ∷ names) rest name h =
     twice_on n name names rest (bytes_eq name n) refl h (λ there. distinct_not names rest name there)
-
-both_true : (a b : Bool) → (a && b) ≡ true → (a ≡ true) × (b ≡ true)
-both_true true b h = (refl, h)
-both_true false b h = absurd (cc)
 
 absent_on : (names after : List (List ℕ)) (name : List ℕ) (t : Bool) → list_any (bytes_eq name) names ≡ t →
     are_distinct (names ++ name ∷ after) ≡ true → t ≡ false

@@ -112,29 +112,6 @@ pub fn second_word<'a>(line: &'a [u8], first: &[u8]) -> Option<&'a [u8]>
     Some(second)
 }
 
-fn distance_of(word: &[u8]) -> Option<DistanceName>
-    ensures some { IfSome result (λ d. word.now ≡ distance_word d) }
-    ensures none { IfNone result ((d : DName) → word.now ≢ distance_word d) }
-{
-    match word {
-        b"drastic" => Some(DistanceName::Drastic),
-        b"hamming" => Some(DistanceName::Hamming),
-        _ => None,
-    }
-}
-
-fn aggregator_of(word: &[u8]) -> Option<AggregatorName>
-    ensures some { IfSome result (λ a. word.now ≡ aggregator_word a) }
-    ensures none { IfNone result ((a : AName) → word.now ≢ aggregator_word a) }
-{
-    match word {
-        b"sum" => Some(AggregatorName::Sum),
-        b"max" => Some(AggregatorName::Max),
-        b"leximax" => Some(AggregatorName::Leximax),
-        _ => None,
-    }
-}
-
 /// The distance that a line names; `None` exactly where the line names none.
 pub fn distance_line(line: &[u8]) -> Option<DistanceName>
     ensures some { IfSome result
@@ -142,7 +119,7 @@ pub fn distance_line(line: &[u8]) -> Option<DistanceName>
     ensures none { IfNone result ((d : DName) →
         words_of line.now ≢ codes "distance" ∷ distance_word d ∷ []) }
 {
-    distance_of(second_word(line, b"distance")?)
+    DistanceName::of_bytes(second_word(line, b"distance")?)
 }
 
 /// The aggregator that a line names; `None` exactly where the line names none.
@@ -152,7 +129,7 @@ pub fn aggregator_line(line: &[u8]) -> Option<AggregatorName>
     ensures none { IfNone result ((a : AName) →
         words_of line.now ≢ codes "aggregator" ∷ aggregator_word a ∷ []) }
 {
-    aggregator_of(second_word(line, b"aggregator")?)
+    AggregatorName::of_bytes(second_word(line, b"aggregator")?)
 }
 
 /// The number of conflicts that a line states; `None` exactly where it states none from 1 to the

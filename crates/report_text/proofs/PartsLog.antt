@@ -1,6 +1,6 @@
 -- The log of a report, the proofs of its claims, and its end.
 use Rattle.std.proofs.Common.{◌≡◌, ℕ, zero, suc, ◌+◌, ◌<◌, ◌≤◌, ◌==◌, nat_lt, nat_le, Bool, true, false, not, ◌&&◌, ◌||◌, List, [], ◌∷◌, ◌++◌, length, map, drop, Option, None, Some, ◌⊎◌, inl, inr, refl, ap, sym, subst, ◌∙◌, append_assoc, append-nil, length-append, arith}
-use Rattle.std.specs.Prelude.{◌^◌, slice_get, is_none}
+use Rattle.std.specs.Prelude.{slice_get, is_none}
 use Rattle.std.specs.List.{AllZip, AllByRecursion, list_all}
 use Rattle.std.proofs.lemmas.Bool.Decides.{nat_tests}
 use Rattle.std.proofs.lemmas.List.{map-append}
@@ -14,7 +14,7 @@ use Rattle.report_words.specs.Numbers.{HasNumeral, IsLiteral}
 use Rattle.derivation_log.specs.declared.wide.WideLink.{WideLink}
 use Rattle.derivation_log.specs.declared.step.Step.{Step}
 use Rattle.derivation_log.specs.Logs.{Follows, IsSound}
-use Rattle.derivation_log.specs.StepLines.{StepLine, IsStep, IsLink, HasLine, step_line, widen, widen_link, any_big, any_big_pivot, is_big, has_big, rises}
+use Rattle.derivation_log.specs.StepLines.{StepLine, IsStep, IsLink, HasLine, step_line, widen, widen_link, any_big, any_big_pivot, is_big, has_big, number_limit, rises}
 use Rattle.log_checker.specs.Verdicts.{verdict_of}
 use Rattle.log_lines.specs.Spending.{Noted, is_spent}
 use Rattle.log_lines.specs.Taking.{narrow, narrow_link, narrow_step, is_step}
@@ -155,14 +155,14 @@ not_is : (a : Bool) → not a ≡ true → a ≡ false
 not_is true e = absurd (cc)
 not_is false e = refl
 
-small : (n : ℕ) → nat_lt 4294967295 n ≡ false → n < 2 ^ 32
+small : (n : ℕ) → nat_le number_limit n ≡ false → n < number_limit
 small n e = grind (arith, nat_tests)
 
 eq_is : (a b : ℕ) → (a == b) ≡ true → a ≡ b
 eq_is a b e = grind (arith, nat_tests)
 
 abbrev IsVariable : ℕ → Type 0
-IsVariable v = (1 ≤ v) × (v < 2 ^ 32)
+IsVariable v = (1 ≤ v) × (v < number_limit)
 
 lits_line : (ls : List WideLit) → AllByRecursion IsLiteral ls → any_big ls ≡ false → AllByRecursion (λ l. IsVariable l.var) (map narrow ls)
 lits_line [] h e = tt

@@ -44,7 +44,7 @@ use Rattle.report_text.proofs.PartsShown.{Setting, profile_in, values_of, ShownF
 use Rattle.report_text.proofs.PartsVerdicts.{judging, VerdictFits}
 use Rattle.report_text.proofs.PartsAnswer.{fresh, AnswerFits}
 use Rattle.report_text.proofs.WrittenHead.{problem_feed}
-use Rattle.report_text.proofs.WrittenSteps.{line_is_step}
+use Rattle.derivation_log.proofs.Narrow.{line_is_step}
 use Rattle.report_text.proofs.WrittenText.{HasNoFeed, are_plain, pieces_are}
 use Rattle.report_text.proofs.PartsOnly.{Same, named_feed, first_same, rest_same, same_item, answers_same}
 

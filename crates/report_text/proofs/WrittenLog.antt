@@ -41,7 +41,8 @@ use Rattle.report_lines.specs.Judged.{Run}
 use Rattle.report_lines.specs.Parts.{Asked, noted_step, step_items, shown_claims, HaveLines}
 use Rattle.report_text.proofs.WrittenPlaces.{Seen, place, draft_of}
 use Rattle.report_text.proofs.WrittenRange.{AreUpTo, main_up, stored_up}
-use Rattle.report_text.proofs.WrittenSteps.{follows_up, follows_ascend, line_is_step, step_right}
+use Rattle.report_text.proofs.WrittenSteps.{follows_up, follows_ascend, step_right}
+use Rattle.derivation_log.proofs.Narrow.{line_is_step}
 
 -- the main clauses by their names
 pub main_is : (d : DistanceName) (a : AggregatorName) (p : Profile) (asks : List Formula) → main_named d a p asks ≡ main_due (counter_named d) (levels_named a) p asks

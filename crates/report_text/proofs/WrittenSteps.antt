@@ -1,10 +1,9 @@
 -- A step that follows from sorted clauses over some variables is right on its line.
-use Rattle.std.proofs.Common.{◌≡◌, ℕ, ◌+◌, ◌*◌, ◌^◌, ◌<◌, ◌≤◌, ◌==◌, Bool, true, false, not, cond, ◌&&◌, ◌||◌, List, [], ◌∷◌, length, map, None, refl, ap, subst, ◌∙◌, arith}
-use Rattle.std.specs.Prelude.{nat_lt, nat_le}
+use Rattle.std.proofs.Common.{◌≡◌, ℕ, ◌+◌, ◌≤◌, true, false, cond, ◌&&◌, List, [], ◌∷◌, length, None, refl, ap, subst, ◌∙◌, arith}
+use Rattle.std.specs.Prelude.{nat_le}
 use Rattle.std.specs.List.{AllByRecursion}
 use Rattle.std.proofs.lemmas.Option.{slice_get_within}
 use Rattle.std.proofs.lemmas.Bool.Decides.{nat_tests}
-use Rattle.report_words.specs.Numbers.{HasNumeral, IsLiteral}
 use Rattle.clause_store.specs.declared.lit.Lit.{Lit}
 use Rattle.clause_store.specs.Lits.{negated, has, same_lit, without, joined, resolvent, Ascends}
 use Rattle.clause_store.specs.Clauses.{clause_at}
@@ -15,7 +14,8 @@ use Rattle.clause_store.proofs.Truths.{and_both}
 use Rattle.derivation_log.specs.declared.step.Link.{Link}
 use Rattle.derivation_log.specs.declared.step.Step.{Step}
 use Rattle.derivation_log.specs.Logs.{Comes, Follows}
-use Rattle.derivation_log.specs.StepLines.{IsStep, IsLink, HasLine, step_line, widen, widen_link, is_big, any_big, any_big_pivot, has_big, is_before, rises_after, rises}
+use Rattle.derivation_log.specs.StepLines.{HasLine, step_line}
+use Rattle.derivation_log.proofs.Narrow.{ascends_rises, step_small}
 use Rattle.log_checker.specs.Verdicts.{Ends, chain_from, verdict_of}
 use Rattle.log_checker.proofs.Chains.{AllBelow, below_step, verdict_ends, same_yes}
 use Rattle.log_lines.specs.Taking.{is_step}
@@ -53,51 +53,6 @@ comes_ascend known running (l ∷ ls) end h k c = comes_ascend known (resolvent 
 
 pub follows_ascend : (known : List (List Lit)) (s : Step) → AllByRecursion Ascends known → Follows known s → Ascends s.clause
 follows_ascend known s h f = comes_ascend known f.0 s.chain s.clause h (each_at Ascends known s.first f.0 h f.1) f.2
-
-rank_before : (v w : ℕ) (p q : Bool) → 2 * v + cond p 0 1 < 2 * w + cond q 0 1 → (nat_lt v w || ((v == w) && (p && not q))) ≡ true
-rank_before v w true true e = grind (arith, nat_tests)
-rank_before v w true false e = grind (arith, nat_tests)
-rank_before v w false true e = grind (arith, nat_tests)
-rank_before v w false false e = grind (arith, nat_tests)
-
-after_rises : (a : Lit) (ls : List Lit) → Ascends (a ∷ ls) → rises_after (widen a) (map widen ls) ≡ true
-after_rises a [] s = refl
-after_rises a (b ∷ ls) s = and_both (is_before (widen a) (widen b)) (rises_after (widen b) (map widen ls)) (rank_before a.var b.var a.positive b.positive s.0.0) (after_rises b ls s.1)
-
-ascends_rises : (ls : List Lit) → Ascends ls → rises (map widen ls) ≡ true
-ascends_rises [] s = refl
-ascends_rises (a ∷ ls) s = after_rises a ls s
-
--- numbers
-
-lits_literal : (ls : List Lit) → AllByRecursion (λ l. (1 ≤ l.var) × (l.var < 2 ^ 32)) ls → AllByRecursion IsLiteral (map widen ls)
-lits_literal [] h = tt
-lits_literal (l ∷ ls) h = (record { low = h.0.0; high = omega (arith, h.0.1) }, lits_literal ls h.1)
-
-links_link : (ls : List Link) → AllByRecursion (λ l. (1 ≤ l.pivot.var) × (l.pivot.var < 2 ^ 32)) ls → AllByRecursion (λ l. HasNumeral l.number) ls → AllByRecursion IsLink (map widen_link ls)
-links_link [] p h = tt
-links_link (l ∷ ls) p h = (record { pivot = record { low = p.0.0; high = omega (arith, p.0.1) }; number = h.0 }, links_link ls p.1 h.1)
-
-pub line_is_step : (n : ℕ) (s : Step) → HasLine n s → IsStep (step_line n s)
-line_is_step n s h = record { number = h.number; clause = lits_literal s.clause h.clause; first = h.first; chain = links_link s.chain h.pivots h.links }
-
-or_none : (x y : Bool) → x ≡ false → y ≡ false → (x || y) ≡ false
-or_none true y e f = absurd (cc)
-or_none false y e f = f
-
-small : (n : ℕ) → n < 2 ^ 32 → nat_lt 4294967295 n ≡ false
-small n h = grind (arith, nat_tests)
-
-lits_small : (ls : List Lit) → AllByRecursion (λ l. (1 ≤ l.var) × (l.var < 2 ^ 32)) ls → any_big (map widen ls) ≡ false
-lits_small [] h = refl
-lits_small (l ∷ ls) h = or_none (is_big (widen l)) (any_big (map widen ls)) (small l.var h.0.1) (lits_small ls h.1)
-
-links_small : (ls : List Link) → AllByRecursion (λ l. (1 ≤ l.pivot.var) × (l.pivot.var < 2 ^ 32)) ls → any_big_pivot (map widen_link ls) ≡ false
-links_small [] h = refl
-links_small (l ∷ ls) h = or_none (is_big (widen l.pivot)) (any_big_pivot (map widen_link ls)) (small l.pivot.var h.0.1) (links_small ls h.1)
-
-step_small : (n : ℕ) (s : Step) → HasLine n s → has_big (step_line n s) ≡ false
-step_small n s h = or_none (any_big (map widen s.clause)) (any_big_pivot (map widen_link s.chain)) (lits_small s.clause h.clause) (links_small s.chain h.pivots)
 
 -- the verdict
 

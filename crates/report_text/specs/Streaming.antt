@@ -23,12 +23,16 @@ pub record IsUndecided (text : List ℕ) : Type 0 where
   pub unended : HasNoFeed rest
   pub nothing_late : place.due ≡ due.Over → rest ≡ []
 
--- no answer was due before the last read, which gave at most 4,096 bytes
+-- the most bytes of a read
+abbrev pub piece_limit : ℕ
+piece_limit = 4096
+
+-- no answer was due before the last read, which gave a piece at most
 pub record IsReadNoFurther (text : List ℕ) : Type 0 where
   pub before : List ℕ
   pub last : List ℕ
   pub whole : text ≡ before ++ last
-  pub few : length last ≤ 4096
+  pub few : length last ≤ piece_limit
   pub undecided : IsUndecided before
 
 -- the text is accepted, and the source, which has this left, is at its end

@@ -105,8 +105,8 @@ impl Progress {
         Ok(())
     }
 
-    /// Takes the next piece of the text: judges each line that ends in it. After a stop the progress
-    /// is of no use any more.
+    /// Takes the next piece of the text: judges each line that ends in it. After a stop the
+    /// progress is of no use any more.
     pub fn piece(&mut self, alloc: Global, piece: &[u8]) -> Result<(), AcceptStop>
         requires { (text : List ℕ) × IsAt text self.old }
         ensures { (text : List ℕ) → IsAt text self.old → IsFed (text ++ piece.now) self.new result }

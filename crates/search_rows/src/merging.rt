@@ -1,5 +1,7 @@
 // Worked merges by way of all valuations.
-use merge_model::{AggregatorName, Answer, DistanceName, Problem, Verdict, merge_named};
+use merge_model::{
+    AggregatorName, Answer, DistanceName, ENUMERATION_LIMIT, Problem, Verdict, merge_named,
+};
 use problem_reading::read_problem;
 use std::alloc::Global;
 use std::test::Fail;
@@ -16,7 +18,7 @@ fn is_yes(answer: &Answer) -> Option<bool> {
 }
 
 fn entailed(alloc: Global, aggregator: AggregatorName, problem: &Problem) -> Option<bool> {
-    if problem.atoms.len() > 8 {
+    if problem.atoms.len() as usize > ENUMERATION_LIMIT {
         return None;
     }
     let answer = merge_named(alloc, DistanceName::Hamming, aggregator, problem).ok()?;

@@ -4,7 +4,7 @@ ghost use Rattle.std.specs.Prelude.{◌≡◌, ℕ, ◌*◌, ◌+◌, ◌<◌, �
 ghost use Rattle.std.specs.Prelude.{false, slice_index_or, slice_set, Contains, All};
 ghost use Rattle.std.specs.Prelude.{IfOk, OnOk, OnErr};
 ghost use Rattle.clause_store.specs.Limits.{var_limit};
-ghost use Rattle.watch_lists.specs.Chains.{AreChains, Chain, list_at, IsApart};
+ghost use Rattle.watch_lists.specs.Chains.{AreChains, Chain, list_at, IsApart, list_end};
 ghost use Rattle.watch_lists.specs.Watches.{lit_at, mate, place_of};
 ghost use Rattle.watch_lists.specs.Seats.{slot_at, AreNone, IsBlank, IsGrown, IsSized};
 
@@ -15,6 +15,7 @@ use edge::NoMemory;
 use std::alloc::Global;
 use std::marker::Model;
 
+// What ends a list; `list_end` of the specs.
 pub const END: u32 = u32::MAX;
 
 // What a visit reads of a watch.
@@ -69,7 +70,7 @@ impl Lists {
 
     // Takes in the two watches of one more clause.
     pub fn grow(&mut self) -> Result<(), NoMemory>
-        requires few { length self.old.next < 4294967293 }
+        requires few { length self.old.next + 2 < list_end }
         ensures ok { OnOk result (IsGrown self.old self.new) }
         ensures err { OnErr result (self.new ≡ self.old) }
     {
@@ -93,7 +94,7 @@ impl Lists {
     // How many watches there are.
     pub fn len(&self) -> usize
         ensures len { result ≡ length self.now.next }
-        ensures few { result < 4294967295 }
+        ensures few { result < list_end }
     {
         self.seats.len()
     }
@@ -101,7 +102,7 @@ impl Lists {
     // Whether a list ends here.
     #[inline]
     pub fn is_end(&self, seat: u32) -> bool
-        ensures end { result ≡ true → slot_at self.now.slots seat ≡ 4294967295 }
+        ensures end { result ≡ true → slot_at self.now.slots seat ≡ list_end }
         ensures seat { result ≡ false → seat < length self.now.next }
         ensures slot { result ≡ false → slot_at self.now.slots seat < length self.now.next }
     {
@@ -152,7 +153,7 @@ impl Lists {
         requires { at < length self.old.heads }
         ensures first { slot_at self.old.slots result ≡ slice_index_or self.old.heads at 0 }
         ensures after { self.new ≡
-            record self.old { heads = slice_set self.old.heads at 4294967295 } }
+            record self.old { heads = slice_set self.old.heads at list_end } }
     {
         let seat = self.heads[at];
         self.heads[at] = END;

@@ -16,12 +16,12 @@ returns-then-is_empty-clause-none c = λ place says.
           absurd (search rules))
     ]
 
-pub returns-then-digits-gt64-clause-some : goal.returns-then-digits-gt64-clause-some
-returns-then-digits-gt64-clause-some c =
+pub returns-then-digits-gt-VALUATION_LIMIT-clause-some : goal.returns-then-digits-gt-VALUATION_LIMIT-clause-some
+returns-then-digits-gt-VALUATION_LIMIT-clause-some c =
     let value = c.as_bytes-digits.ensures.value in
     let is : c.are_truth_digits.result ≡ true = search rules in
     let all = subst (All IsTruthDigit) value (c.are_truth_digits.ensures.0 is) in
-    says_long c.args.word.now all (subst (λ (ds : List ℕ). 64 < length ds) value c.if-digits-gt64.true)
+    says_long c.args.word.now all (subst (λ (ds : List ℕ). 64 < length ds) value c.if-digits-gt-VALUATION_LIMIT.true)
 
 pub returns-clause-some : goal.returns-clause-some
 returns-clause-some c =
