@@ -1,4 +1,4 @@
-// The copy of an agent.
+//! The copy of an agent.
 
 ghost use Rattle.std.specs.Prelude.{◌≡◌, ◌+◌, ◌≤◌, ◌++◌, IfOk, OnOk, OnErr, length, map};
 ghost use Rattle.clause_store.specs.Lits.{positive_lit, sorted_clause, InRange};

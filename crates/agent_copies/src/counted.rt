@@ -1,4 +1,4 @@
-// Distances with counters.
+//! Distances with counters.
 
 ghost use Rattle.std.specs.Prelude.{◌≡◌, ℕ, ◌+◌, ◌≤◌, List, ◌++◌, IfOk, OnOk, OnErr, length, map};
 ghost use Rattle.formulas.specs.Limits.{valuation_limit};

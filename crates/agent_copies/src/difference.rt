@@ -1,4 +1,4 @@
-// Difference variables.
+//! Difference variables.
 
 ghost use Rattle.std.specs.Prelude.{◌≡◌, ◌+◌, ◌≤◌, ◌++◌, OnOk, OnErr, length, map};
 ghost use Rattle.clause_store.specs.Lits.{sorted_clause, IsWithin, InRange};

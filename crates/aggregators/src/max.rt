@@ -31,7 +31,7 @@ impl Levelled for Max {
 
     ghost are_levels = { λ _ v aways times h. max_is v aways times h };
 
-    fn level_values(&self, alloc: Global, full: &[u32], _top: u32) -> Result<Vec<u32>, NoMemory> {
+    fn level_values(&self, alloc: Global, full: &[u32], top: u32) -> Result<Vec<u32>, NoMemory> {
         let values = vec![in alloc; greatest(full)]?;
         Ok(values)
     }
@@ -41,7 +41,7 @@ impl Levelled for Max {
         alloc: Global,
         clauses: &mut ClauseList,
         aways: &[Unary],
-        _times: &[u32],
+        times: &[u32],
     ) -> Result<Vec<Unary>, NoMemory> {
         let top = aways[0].len() as usize;
         let outputs = add_outputs(alloc, clauses, aways, top)?;

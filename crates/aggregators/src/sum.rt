@@ -22,7 +22,7 @@ impl Levelled for Sum {
     ghost are_levels = { λ _ v aways times h. sum_is v aways times h };
 
     #[tactic(auto, using(ranks::proofs::SumLaws::small_sum_top))]
-    fn level_values(&self, alloc: Global, full: &[u32], _top: u32) -> Result<Vec<u32>, NoMemory> {
+    fn level_values(&self, alloc: Global, full: &[u32], top: u32) -> Result<Vec<u32>, NoMemory> {
         let values = vec![in alloc; total(full)]?;
         Ok(values)
     }

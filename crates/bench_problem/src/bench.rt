@@ -3,7 +3,8 @@ ghost use Rattle.std.specs.List.{range_with_len};
 ghost use Rattle.merge_model.specs.declared.problem.Problem.{Problem};
 ghost use Rattle.merge_model.specs.Answers.{profile_of};
 ghost use Rattle.merge_model.specs.Merging.{LacksModel};
-ghost use Rattle.bench_problem.specs.Bench.{agent_of, ask_at, atom_name, draws_of, IsBench};
+ghost use Rattle.bench_problem.specs.Bench.{agent_count, agent_of, ask_at, ask_count, atom_name};
+ghost use Rattle.bench_problem.specs.Bench.{base_size, draws_of, IsBench};
 ghost use Rattle.bench_problem.specs.Draws.{state_after};
 ghost use Rattle.bench_problem.specs.Planted.{atom_count};
 
@@ -26,7 +27,7 @@ const CONSTRAINT_SIZE: u32 = 16;
 /// How many disjunctions a base has.
 const BASE_SIZE: u32 = 10;
 
-// x0 to x23.
+/// x0 to x23.
 fn atoms(alloc: Global) -> Result<Atoms, NoMemory>
     ensures { IfOk result (λ atoms. atoms ≡ map atom_name (range_with_len 0 atom_count)) }
 {
@@ -38,11 +39,12 @@ fn atoms(alloc: Global) -> Result<Atoms, NoMemory>
     Ok(atoms)
 }
 
-// g1 to g8 with their bases.
+/// g1 to g8 with their bases.
 fn agents(alloc: Global, draws: &mut Draws) -> Result<Vec<Agent>, NoMemory>
     ensures agents { IfOk result (λ agents. agents.items
-        ≡ map (agent_of draws.old) (range_with_len 0 8)) }
-    ensures state { OnOk result (draws.new ≡ state_after draws.old (draws_of 10 * 8)) }
+        ≡ map (agent_of draws.old) (range_with_len 0 agent_count)) }
+    ensures state { OnOk result
+        (draws.new ≡ state_after draws.old (draws_of base_size * agent_count)) }
 {
     let mut agents = Vec::new(alloc);
     for number in 0..AGENTS {
@@ -58,9 +60,10 @@ fn agents(alloc: Global, draws: &mut Draws) -> Result<Vec<Agent>, NoMemory>
     Ok(agents)
 }
 
-// The queries.
+/// The queries.
 fn asks(alloc: Global, draws: &mut Draws) -> Result<Vec<Formula>, NoMemory>
-    ensures { IfOk result (λ asks. asks.items ≡ map (ask_at draws.old) (range_with_len 0 4)) }
+    ensures { IfOk result (λ asks. asks.items
+        ≡ map (ask_at draws.old) (range_with_len 0 ask_count)) }
 {
     let mut asks = Vec::new(alloc);
     for _ in 0..ASKS {

@@ -1,4 +1,4 @@
-// Problems to measure speed by: each is drawn from its number.
+//! Problems to measure speed by: each is drawn from its number.
 #![tactic(auto)]
 
 mod bench;

@@ -11,7 +11,7 @@ use std::alloc::Global;
 /// How many atoms there are.
 pub const ATOMS: u32 = 24;
 
-// An atom, or its negation.
+/// An atom, or its negation.
 fn literal(alloc: Global, atom: u32, positive: bool) -> Result<Formula, NoMemory>
     ensures { IfOk result (λ formula. formula ≡ literal_of atom positive) }
 {
@@ -21,7 +21,7 @@ fn literal(alloc: Global, atom: u32, positive: bool) -> Result<Formula, NoMemory
     Formula::negation(alloc, Formula::Atom(atom))
 }
 
-// Three literals, of which the first is true at the values.
+/// Three literals, of which the first is true at the values.
 fn disjunction(alloc: Global, draws: &mut Draws, values: &[bool]) -> Result<Formula, NoMemory>
     requires { length values.now ≡ atom_count }
     ensures formula { IfOk result (λ formula. formula ≡ disjunction_of values.now draws.old) }
@@ -39,12 +39,12 @@ fn disjunction(alloc: Global, draws: &mut Draws, values: &[bool]) -> Result<Form
     Formula::disjunction(alloc, two, right)
 }
 
-// The values of a planted formula.
-fn values(draws: &mut Draws) -> [bool; 24]
+/// The values of a planted formula.
+fn values(draws: &mut Draws) -> [bool; ATOMS as usize]
     ensures values { result ≡ planted_values draws.old }
     ensures state { draws.new ≡ state_after draws.old atom_count }
 {
-    let mut values = [false; 24];
+    let mut values = [false; ATOMS as usize];
     for place in 0..values.len() {
         values[place] = draws.draw_bit();
     }

@@ -1,4 +1,4 @@
-// Conflict analysis: back along the trail by resolution.
+//! Conflict analysis: back along the trail by resolution.
 ghost use Rattle.std.specs.Prelude.{◌≡◌, ◌+◌, ◌-◌, ◌<◌, ◌≤◌, ◌++◌, ◌∷◌, [], ℕ, false, length, IfOk};
 ghost use Rattle.std.specs.Prelude.{OnOk, Some, nat_lt, if◌then◌else◌, slice_set};
 ghost use Rattle.std.specs.List.{AllByRecursion};
@@ -125,7 +125,6 @@ pub fn learn<P: Propagator>(
     ensures one { IfOk result (λ made. room_of (upto (trail.now.level - 1) trail.now.entries)
         made.clause ≡ 1) }
 {
-    let _ = propagator;
     trail.facts();
     let level = trail.level();
     let mut chain = Vec::new(alloc);
@@ -175,8 +174,6 @@ pub fn claim<P: Propagator>(
         made.clause) }
     ensures refutes { IfOk result (λ made. Refutes made.clause assumptions.now) }
 {
-    let _ = propagator;
-    let _ = assumptions;
     trail.facts();
     let mut chain = Vec::new(alloc);
     marks.add(trail, known.clause(first), None, 0)?;

@@ -1,4 +1,4 @@
-// What to decide next.
+//! What to decide next.
 ghost use Rattle.std.specs.Prelude.{◌≤◌, IfOk, IfSome, IfNone};
 ghost use Rattle.clause_store.specs.Lits.{InRange};
 ghost use Rattle.cdcl_core.specs.Choices.{AreTrueBefore, IsChosen, IsFree, IsFull, HasValues};

@@ -1,4 +1,4 @@
-// The solver's steps, each of which keeps what holds between them.
+//! The solver's steps, each of which keeps what holds between them.
 ghost use Rattle.std.specs.Prelude.{◌≡◌, ◌+◌, ◌-◌, ◌<◌, ◌≤◌, ◌∷◌, ℕ, List, true, length, IfOk};
 ghost use Rattle.std.specs.Prelude.{OnOk, OnErr, IfSome, IfNone, Some, None};
 ghost use Rattle.clause_store.specs.declared.lit.Lit.{Lit};
@@ -73,7 +73,6 @@ pub fn retreat<P: Propagator>(
     ensures attached { P.attached propagator.new ≡ P.attached propagator.old }
     ensures vars { P.vars propagator.new ≡ P.vars propagator.old }
 {
-    let _ = log;
     trail.facts();
     if level < trail.level() {
         order.take_back(trail, level);
@@ -101,8 +100,6 @@ pub fn open<P: Propagator>(log: &Derivations, trail: &mut Trail, propagator: &P,
     } }
     ensures within { length trail.new.entries ≤ trail.new.vars }
 {
-    let _ = log;
-    let _ = propagator;
     trail.facts();
     trail.decide(lit);
 }

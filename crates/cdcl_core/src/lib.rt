@@ -1,4 +1,4 @@
-// A solver that learns from conflicts, under assumptions, and keeps a log of what it learned.
+//! A solver that learns from conflicts, under assumptions, and keeps a log of what it learned.
 #![tactic(auto)]
 
 mod analysis;

@@ -1,4 +1,4 @@
-// Marks on variables, by which conflict analysis knows the clause that it is at.
+//! Marks on variables, by which conflict analysis knows the clause that it is at.
 ghost use Rattle.std.specs.Prelude.{◌≡◌, ◌+◌, ◌<◌, ◌++◌, ◌∷◌, [], ℕ, true, false, length, IfOk};
 ghost use Rattle.std.specs.Prelude.{OnOk, if◌then◌else◌, slice_set};
 ghost use Rattle.clause_store.specs.Lits.{InRange, IsWithin, has, sorted_clause};
@@ -15,9 +15,9 @@ use watch_lists::Trail;
 /// clause. Between two conflicts no variable is marked, and no literal is kept.
 #[derive(Drop)]
 pub struct Marks {
-    // by variable
+    /// By variable.
     marked: Vec<bool>,
-    // the literals that will not be resolved away
+    /// The literals that will not be resolved away.
     kept: Vec<Lit>,
 }
 

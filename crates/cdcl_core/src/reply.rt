@@ -1,14 +1,14 @@
-// What a solver answers.
+//! What a solver answers.
 use clause_store::Assignment;
 
 /// The answer to a question, which assumes some literals.
 #[derive(Drop)]
 pub enum Reply {
-    /// an assignment under which the main clauses and the assumptions are true
+    /// An assignment under which the main clauses and the assumptions are true.
     Found(Assignment),
-    /// the number of a step whose clause has negations of assumptions alone, so no such assignment
-    /// exists
+    /// The number of a step whose clause has negations of assumptions alone, so no such assignment
+    /// exists.
     Refuted(u64),
-    /// the budget was spent; the number of the first step that the question appended
+    /// The budget was spent; the number of the first step that the question appended.
     GaveUp(u64),
 }

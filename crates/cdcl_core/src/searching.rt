@@ -1,4 +1,4 @@
-// The solver: decide, propagate, learn.
+//! The solver: decide, propagate, learn.
 ghost use Rattle.std.specs.Prelude.{◌≡◌, ◌≢◌, ◌<◌, false, length, IfOk, OnOk, OnErr, Some};
 ghost use Rattle.std.specs.Prelude.{Contains};
 ghost use Rattle.std.specs.Prelude.{AllPairs};

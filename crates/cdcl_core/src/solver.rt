@@ -1,4 +1,4 @@
-// A solver that keeps a log.
+//! A solver that keeps a log.
 
 ghost use Rattle.std.specs.Prelude.{◌≡◌, ◌≢◌, ◌<◌, ◌≤◌, [], true, false, length, map, IfOk, OnOk};
 ghost use Rattle.std.specs.Prelude.{OnErr, IsErr, AllPairs, ◌^◌};

@@ -4,7 +4,7 @@ use Rattle.std.specs.Prelude.{map, if◌then◌else◌, slice_get, ◌⊎◌, na
 use Rattle.std.specs.List.{AllByRecursion}
 use Rattle.std.proofs.lemmas.Bool.{cases_Bool}
 use Rattle.clause_store.specs.declared.lit.Lit.{Lit}
-use Rattle.clause_store.specs.Lits.{rank_of, negated, same_lit, IsWithin, InRange, AreInRange, has, without, with_lit, joined, resolvent, sorted_onto, sorted_clause}
+use Rattle.clause_store.specs.Lits.{rank_of, negated, same_lit, IsWithin, InRange, AreInRange, without, with_lit, joined, resolvent, sorted_onto, sorted_clause}
 use Rattle.clause_store.specs.Truth.{lit_true, clause_true, all_true, AreTrue, Agree}
 use Rattle.clause_store.proofs.Lits.{rank_lit}
 
@@ -159,13 +159,4 @@ resolvent_true a p c d h k =
     joined_true a (without p c) (without (negated p) d) ∙ elim (cases_Bool (lit_true a p)) [
       | inl t ↦ or_right (clause_true a (without p c)) (clause_true a (without (negated p) d)) (without_true a (negated p) d k (lit_true-negated a p ∙ ap not t))
       | inr t ↦ or_left (clause_true a (without p c)) (clause_true a (without (negated p) d)) (without_true a p c h t)
-    ]
-
--- a clause with a true literal is true
-pub has_true : (a : ℕ → Bool) (l : Lit) (c : List Lit) → has l c ≡ true → lit_true a l ≡ true → clause_true a c ≡ true
-has_true a l [] h t = absurd (cc)
-has_true a l (m ∷ ms) h t =
-    elim (or_cases (same_lit l m) (has l ms) h) [
-      | inl s ↦ or_left (lit_true a m) (clause_true a ms) (sym (same_true a l m s) ∙ t)
-      | inr s ↦ or_right (lit_true a m) (clause_true a ms) (has_true a l ms s t)
     ]

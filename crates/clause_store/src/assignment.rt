@@ -1,4 +1,4 @@
-// An assignment: a truth value for each variable.
+//! An assignment: a truth value for each variable.
 ghost use Rattle.std.specs.Prelude.{◌≡◌, ◌-◌, ◌≤◌, IfOk, false, length, replicate, slice_set};
 ghost use Rattle.clause_store.specs.Lits.{InRange};
 ghost use Rattle.clause_store.specs.Truth.{all_true, clause_true, values_of};

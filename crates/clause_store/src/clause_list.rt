@@ -1,4 +1,4 @@
-// A list of clauses in one flat list of literals.
+//! A list of clauses in one flat list of literals.
 ghost use Rattle.std.specs.Prelude.{◌≡◌, ◌+◌, ◌<◌, ◌≤◌, [], ◌∷◌, ◌++◌, length, slice_get};
 ghost use Rattle.std.specs.Prelude.{Some, IfOk, OnOk, OnErr, take, drop};
 ghost use Rattle.clause_store.specs.Keeping.{kept_of};
@@ -12,6 +12,9 @@ use crate::lit::Lit;
 use edge::NoMemory;
 use std::alloc::Global;
 use std::marker::Model;
+
+/// A list has fewer literals; `literal_limit` of the specs.
+const LITERAL_LIMIT: usize = 1 << 32;
 
 /// A list of clauses over the variables from 1 to a number. It grows at its end alone. Equal
 /// clauses may stand in it twice.
@@ -175,7 +178,7 @@ impl ClauseList {
         let Some(end) = self.lits.len().checked_add(lits.len()) else {
             return Err(NoMemory);
         };
-        if end > u32::MAX as usize {
+        if end >= LITERAL_LIMIT {
             return Err(NoMemory);
         }
         self.ends.reserve(1)?;

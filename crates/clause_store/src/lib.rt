@@ -1,4 +1,4 @@
-// Literals, clauses, lists of clauses and assignments.
+//! Literals, clauses, lists of clauses and assignments.
 #![tactic(auto)]
 
 mod assignment;

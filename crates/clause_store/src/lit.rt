@@ -1,4 +1,4 @@
-// A literal: a variable with a sign.
+//! A literal: a variable with a sign.
 ghost use Rattle.std.specs.Prelude.{◌≡◌};
 ghost use Rattle.std.proofs.Common.{rules};
 ghost use Rattle.std.specs.Cmp.{partial_order_from_own_ties};
@@ -18,7 +18,7 @@ pub struct Lit {
     pub positive: bool,
 }
 
-// By rank.
+/// By rank.
 impl Ord for Lit {
     ghost cmp = { on rank_of nat_cmp };
 

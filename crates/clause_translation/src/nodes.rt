@@ -1,4 +1,4 @@
-// The clauses of one node, over a fresh variable that stands for it.
+//! The clauses of one node, over a fresh variable that stands for it.
 
 ghost use Rattle.std.specs.Prelude.{◌≡◌, ◌+◌, ◌<◌, ◌++◌, IfOk, OnOk, OnErr, map};
 ghost use Rattle.clause_store.specs.Lits.{positive_lit, sorted_clause, IsWithin};

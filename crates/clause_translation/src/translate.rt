@@ -1,4 +1,4 @@
-// From a formula to clauses.
+//! From a formula to clauses.
 
 ghost use Rattle.std.specs.Prelude.{◌≡◌, ◌+◌, ◌≤◌, ◌++◌, IfOk, OnOk, OnErr, length, map};
 ghost use Rattle.clause_store.specs.Lits.{positive_lit, sorted_clause, InRange};

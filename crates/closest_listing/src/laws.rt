@@ -1,4 +1,4 @@
-// What the answers of a listing, one after the other, come to.
+//! What the answers of a listing, one after the other, come to.
 ghost use Rattle.closest_listing.specs.Listed.{ListedLaw};
 
 /// Valuations that a listing gave one after the other are the first closest valuations above its

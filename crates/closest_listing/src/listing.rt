@@ -1,4 +1,4 @@
-// A listing and its place.
+//! A listing and its place.
 ghost use Rattle.std.specs.Prelude.{◌≡◌, ◌↔◌, length, IsTrue, MatchResult};
 ghost use Rattle.std.specs.Option.{ForSome};
 ghost use Rattle.solver_laws.specs.Ready.{IsLog};

@@ -1,4 +1,4 @@
-// Lists of closest valuations.
+//! Lists of closest valuations.
 ghost use Rattle.std.specs.Prelude.{◌≡◌, ◌++◌, IfOk, OnOk, MatchResult};
 ghost use Rattle.std.specs.List.{flat_map};
 ghost use Rattle.distance_search.specs.Results.{IsBestFor};

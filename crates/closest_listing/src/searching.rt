@@ -1,4 +1,4 @@
-// The search for a list.
+//! The search for a list.
 ghost use Rattle.std.specs.Prelude.{◌≡◌, ◌≤◌, length, IfOk, MatchResult};
 ghost use Rattle.std.specs.Option.{ForSome};
 ghost use Rattle.solver_laws.specs.Ready.{IsLog};
@@ -50,8 +50,6 @@ enum Prospect {
     /// Some formula has no model: there is none.
     Lacking(Consistency),
 }
-
-ghost use Rattle.closest_listing.specs.declared.searching.ListEnd.TheVariants as ends;
 
 /// A best answer, or which formulas have no model.
 fn prospect_of<D: Counted + Drop, A: Levelled + Drop>(

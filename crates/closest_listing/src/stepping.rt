@@ -1,4 +1,4 @@
-// The next closest valuation, atom by atom.
+//! The next closest valuation, atom by atom.
 ghost use Rattle.std.specs.Prelude.{◌≡◌, ◌+◌, ◌<◌, ◌≤◌, [], ◌∷◌, ◌++◌, length, take, IfOk};
 ghost use Rattle.std.specs.Prelude.{MatchResult};
 ghost use Rattle.std.specs.Option.{ForSome};

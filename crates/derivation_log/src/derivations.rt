@@ -1,4 +1,4 @@
-// A main list of clauses, and the steps that follow it.
+//! A main list of clauses, and the steps that follow it.
 ghost use Rattle.std.specs.Prelude.{◌≡◌, ◌+◌, ◌<◌, ◌≤◌, ◌-◌, map, [], ◌∷◌, ◌++◌, length, slice_get};
 ghost use Rattle.std.specs.Prelude.{Some, IfOk, OnOk, OnErr};
 ghost use Rattle.clause_store.specs.Lits.{InRange};
@@ -17,10 +17,10 @@ use std::marker::Model;
 
 /// What the log keeps of a step beside its clause, which stands in the list of known clauses.
 #[derive(Drop)]
-pub(crate) struct Row {
-    pub(crate) kind: StepKind,
-    pub(crate) first: u64,
-    pub(crate) chain: Chain,
+pub struct Row {
+    pub kind: StepKind,
+    pub first: u64,
+    pub chain: Chain,
 }
 
 /// A log: a main list of clauses and a list of steps, which grows at its end alone. The clauses of

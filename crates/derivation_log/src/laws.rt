@@ -1,4 +1,4 @@
-// What step lines say.
+//! What step lines say.
 ghost use Rattle.derivation_log.specs.LineLaws.{OnceLaw, ReadBackLaw};
 
 /// A line spells at most one step, so each answer of `read_step` comes exactly where its words

@@ -1,5 +1,5 @@
-// The log of resolution steps behind a main list of clauses, and the lines that its steps are
-// written as.
+//! The log of resolution steps behind a main list of clauses, and the lines that its steps are
+//! written as.
 #![tactic(auto)]
 
 mod derivations;

@@ -1,4 +1,4 @@
-// Reading a step line.
+//! Reading a step line.
 ghost use Rattle.std.specs.Prelude.{◌≡◌, ◌<◌, Some, None, false, IfOk, MatchOption, map};
 ghost use Rattle.std.specs.Prelude.{if◌then◌else◌};
 ghost use Rattle.report_words.specs.Words.{words_of};
@@ -6,7 +6,7 @@ ghost use Rattle.derivation_log.specs.StepLines.{seen, any_big, any_big_pivot, i
 ghost use Rattle.derivation_log.specs.StepLines.{widen, widen_link, number_limit, IsReading};
 ghost use Rattle.derivation_log.specs.StepReading.{Takes, number_then, word_then, kind_at};
 ghost use Rattle.derivation_log.specs.StepReading.{kind_then, lits_then, links_at, step_at};
-ghost use Rattle.derivation_log.specs.declared.reading.StepReadStop.TheVariants.{NoMemory as OutOfMemory};
+ghost use Rattle.derivation_log.specs.declared.reading.StepReadStop.TheVariants as stops;
 
 use crate::step::{Chain, Link, Step, StepKind};
 use crate::wide::{WideLink, WideStep};
@@ -15,7 +15,7 @@ use edge::NoMemory;
 use report_words::{WideLit, Words, literal_of, number_of};
 use std::alloc::{AllocError, AllocFailed, Global};
 
-// Variables are numbered below it.
+/// Variables are numbered below it.
 const NUMBER_LIMIT: u64 = 1 << 32;
 
 /// Why a line is not read as a step.
@@ -33,7 +33,7 @@ pub enum StepReadStop {
 }
 
 impl From<NoMemory> for StepReadStop {
-    ghost from_gives = { λ _ stop. stop ≡ OutOfMemory };
+    ghost from_gives = { λ _ stop. stop ≡ stops.NoMemory };
 
     fn from(_error: NoMemory) -> StepReadStop {
         StepReadStop::NoMemory

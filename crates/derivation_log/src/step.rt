@@ -1,4 +1,4 @@
-// A step of a log: a clause and the resolutions that make it.
+//! A step of a log: a clause and the resolutions that make it.
 ghost use Rattle.std.specs.Prelude.{◌≡◌, ◌+◌, length, map};
 ghost use Rattle.derivation_log.specs.Marking.{placed_link, AreBelow};
 

@@ -1,4 +1,4 @@
-// Which steps of a log are needed, and the numbers that they have where the others have gone.
+//! Which steps of a log are needed, and the numbers that they have where the others have gone.
 ghost use Rattle.std.specs.Prelude.{◌≡◌, ◌+◌, ◌<◌, ◌^◌, false, length, map, replicate, IfOk};
 ghost use Rattle.clause_store.specs.Keeping.{kept_of};
 ghost use Rattle.derivation_log.specs.Marking.{mark, mark_all, numbers_of, swept, places_from};
@@ -51,7 +51,7 @@ fn mark_used(marks: &mut [bool], main: u64, row: &Row)
 
 /// The marks of the steps that are needed. From the last step back, each that is needed marks what
 /// it uses.
-pub(crate) fn marks_of(
+pub fn marks_of(
     alloc: Global,
     main: u64,
     rows: &[Row],
@@ -75,7 +75,7 @@ pub(crate) fn marks_of(
 }
 
 /// The new number of each step, were it left.
-pub(crate) fn places_of(alloc: Global, main: u64, marks: &[bool]) -> Result<Vec<u64>, NoMemory>
+pub fn places_of(alloc: Global, main: u64, marks: &[bool]) -> Result<Vec<u64>, NoMemory>
     requires { main + length marks.now < 2 ^ 64 }
     ensures { IfOk result (λ places. places.items ≡ places_from main marks.now) }
 {
@@ -103,7 +103,7 @@ fn place_of(main: u64, places: &[u64], number: u64) -> u64
 }
 
 /// The new numbers of these clauses.
-pub(crate) fn new_numbers(
+pub fn new_numbers(
     alloc: Global,
     main: u64,
     places: &[u64],
@@ -120,7 +120,7 @@ pub(crate) fn new_numbers(
 }
 
 /// Gives links the new numbers of the clauses that they name.
-pub(crate) fn place_links(links: &mut [Link], main: u64, places: &[u64])
+pub fn place_links(links: &mut [Link], main: u64, places: &[u64])
     requires { AreBelow (main + length places.now) (map (λ link. link.number) links.old) }
     ensures { links.new ≡ map (placed_link main places.now) links.old }
 {
@@ -139,7 +139,7 @@ fn place_row(row: &mut Row, main: u64, places: &[u64])
 }
 
 /// Leaves the marked rows, in order, with the new numbers of the clauses that they use.
-pub(crate) fn keep_rows(rows: &mut Vec<Row>, main: u64, marks: &[bool], places: &[u64])
+pub fn keep_rows(rows: &mut Vec<Row>, main: u64, marks: &[bool], places: &[u64])
     requires each { length marks.now ≡ length rows.old.items }
     requires rows { RowsBelow (main + length places.now) rows.old.items }
     ensures { rows.new.items ≡ map (placed_row main places.now) (kept_of marks.now rows.old.items) }

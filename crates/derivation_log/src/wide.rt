@@ -1,4 +1,4 @@
-// A step as its line spells it: numbers of literals may be larger than that of any variable.
+//! A step as its line spells it: numbers of literals may be larger than that of any variable.
 use crate::step::StepKind;
 use report_words::WideLit;
 

@@ -1,4 +1,4 @@
-// Writing a step line.
+//! Writing a step line.
 ghost use Rattle.std.specs.Prelude.{◌≡◌, ◌++◌, ◌∷◌, OnOk, OnErr, codes};
 ghost use Rattle.std.specs.List.{flat_map, AllByRecursion};
 ghost use Rattle.report_words.specs.Numbers.{HasNumeral, literal_word};

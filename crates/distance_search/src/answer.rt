@@ -1,4 +1,4 @@
-// What a search answers.
+//! What a search answers.
 ghost use Rattle.std.specs.Prelude.{◌↔◌, IsTrue, All};
 ghost use Rattle.distance_search.specs.Results.{IsModelNamed, AllNamed};
 

@@ -1,4 +1,4 @@
-// Who answers claims on a problem.
+//! Who answers claims on a problem.
 ghost use Rattle.std.specs.Prelude.{◌≡◌, ℕ, ◌<◌, ◌≤◌, length, All, IfOk, MatchResult};
 ghost use Rattle.cdcl_core.specs.Replies.{IsLonger};
 ghost use Rattle.formulas.specs.Formulas.{holds};

@@ -1,4 +1,4 @@
-// A closest model, and what every closest model satisfies.
+//! A closest model, and what every closest model satisfies.
 ghost use Rattle.std.specs.Prelude.{◌<◌, ◌≤◌, length, MatchResult};
 ghost use Rattle.cdcl_core.specs.Replies.{IsLonger};
 ghost use Rattle.distance_search.specs.Setting.{IsOver};

@@ -1,4 +1,4 @@
-// The exact distances of a model.
+//! The exact distances of a model.
 ghost use Rattle.std.specs.Prelude.{◌≡◌, ◌<◌, length, All, MatchResult};
 ghost use Rattle.std.specs.List.{AllZip};
 ghost use Rattle.cdcl_core.specs.Replies.{IsLonger};

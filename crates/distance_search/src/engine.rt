@@ -1,4 +1,4 @@
-// The solver that answers the questions.
+//! The solver that answers the questions.
 use cdcl_core::Solver;
 use watch_lists::Watches;
 

@@ -1,4 +1,4 @@
-// A claim put to the solver.
+//! A claim put to the solver.
 
 ghost use Rattle.std.specs.Prelude.{◌≡◌, ◌≤◌, length, map, IfOk, MatchResult};
 ghost use Rattle.agent_copies.specs.declared.copy.AgentCopy.{AgentCopy as Copy};

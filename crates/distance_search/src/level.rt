@@ -1,4 +1,4 @@
-// Making the levels least.
+//! Making the levels least.
 ghost use Rattle.std.specs.Prelude.{◌≡◌, ◌<◌, length, map, min, IfOk, MatchResult};
 ghost use Rattle.cdcl_core.specs.Replies.{IsLonger};
 ghost use Rattle.distance_search.specs.Setting.{IsOver};
@@ -33,7 +33,7 @@ pub struct LeastLevels {
     pub steps: Vec<Option<u64>>,
 }
 
-// The lengths of the levels.
+/// The lengths of the levels.
 fn level_lengths(alloc: Global, levels: &[Unary]) -> Result<Vec<u32>, NoMemory>
     ensures { IfOk result (λ lengths. lengths.items ≡ map length levels.now) }
 {
@@ -44,7 +44,7 @@ fn level_lengths(alloc: Global, levels: &[Unary]) -> Result<Vec<u32>, NoMemory>
     Ok(lengths)
 }
 
-// The lengths of the levels, or a value where that is less.
+/// The lengths of the levels, or a value where that is less.
 fn level_limits(alloc: Global, levels: &[Unary], most: u32) -> Result<Vec<u32>, NoMemory>
     ensures { IfOk result (λ limits. limits.items
         ≡ map (λ level. min (length level) most) levels.now) }

@@ -1,4 +1,4 @@
-// Which formulas have models.
+//! Which formulas have models.
 ghost use Rattle.std.specs.Prelude.{◌<◌, length, MatchResult};
 ghost use Rattle.cdcl_core.specs.Replies.{IsLonger};
 ghost use Rattle.merge_encoding.specs.Claims.{NoModelOfConstraint, NoModelOfBase, base_at};

@@ -1,4 +1,4 @@
-// Closest models at hand, which answer the queries that they break.
+//! Closest models at hand, which answer the queries that they break.
 ghost use Rattle.std.specs.Prelude.{◌≡◌, ℕ, ◌<◌, List, length, IfOk, IfSome, MatchResult};
 ghost use Rattle.cdcl_core.specs.Replies.{IsLonger};
 ghost use Rattle.distance_search.specs.AtHand.{AreAtHand, IsKept};

@@ -1,4 +1,4 @@
-// Questions that copy the limits they are about.
+//! Questions that copy the limits they are about.
 ghost use Rattle.std.specs.Prelude.{◌≡◌, ◌<◌, length, MatchResult, IfOk, slice_index};
 ghost use Rattle.cdcl_core.specs.Replies.{IsLonger};
 ghost use Rattle.merge_encoding.specs.Claims.{NoBetter, NoBreaker, NoModelWith};

@@ -1,6 +1,6 @@
-// What a question gives.
+//! What a question gives.
 ghost use Rattle.std.specs.Prelude.{◌≡◌};
-ghost use Rattle.distance_search.specs.declared.reply.SearchStop.TheVariants.{NoMemory as OutOfMemory};
+ghost use Rattle.distance_search.specs.declared.reply.SearchStop.TheVariants as stops;
 
 use edge::NoMemory;
 use formulas::Valuation;
@@ -36,7 +36,7 @@ pub enum SearchStop {
 }
 
 impl From<NoMemory> for SearchStop {
-    ghost from_gives = { λ _ stop. stop ≡ OutOfMemory };
+    ghost from_gives = { λ _ stop. stop ≡ stops.NoMemory };
 
     fn from(_error: NoMemory) -> SearchStop {
         SearchStop::NoMemory
@@ -44,7 +44,7 @@ impl From<NoMemory> for SearchStop {
 }
 
 impl<T: Drop> From<AllocFailed<T>> for SearchStop {
-    ghost from_gives = { λ _ stop. stop ≡ OutOfMemory };
+    ghost from_gives = { λ _ stop. stop ≡ stops.NoMemory };
 
     fn from(_failed: AllocFailed<T>) -> SearchStop {
         SearchStop::NoMemory

@@ -1,4 +1,4 @@
-// The search, as its callers see it.
+//! The search, as its callers see it.
 
 ghost use Rattle.std.specs.Prelude.{◌≡◌, ◌<◌, ◌≤◌, ◌↔◌, false, [], length, map, All, IfOk};
 ghost use Rattle.std.specs.Prelude.{MatchResult, IsTrue};

@@ -1,4 +1,4 @@
-// A problem with its frame, and its questions.
+//! A problem with its frame, and its questions.
 ghost use Rattle.std.specs.Prelude.{◌≡◌, ◌≤◌};
 ghost use Rattle.merge_encoding.specs.Frames.{frame_of};
 ghost use Rattle.merge_encoding.specs.MainDues.{due_for};

@@ -1,5 +1,5 @@
-// The totals that a sum is made of, by halves as `total` makes them. Their numbers are worked out
-// anew from the lengths of the counters; nothing rests on them.
+//! The totals that a sum is made of, by halves as `total` makes them. Their numbers are worked out
+//! anew from the lengths of the counters; nothing rests on them.
 
 ghost use Rattle.std.specs.Prelude.{◌≡◌, ◌<◌, length};
 

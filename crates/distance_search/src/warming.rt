@@ -1,5 +1,5 @@
-// Questions before a sum is made least, whose answers prove nothing: what the solver learns from
-// them helps it later. They bound the totals that the sum is made of, the smaller ones first.
+//! Questions before a sum is made least, whose answers prove nothing: what the solver learns from
+//! them helps it later. They bound the totals that the sum is made of, the smaller ones first.
 
 ghost use Rattle.std.specs.Prelude.{◌≡◌, ◌≢◌, ◌↔◌, ◌<◌, ◌≤◌, All, IfOk, IsTrue, length};
 ghost use Rattle.cdcl_core.specs.Replies.{IsLonger};

@@ -6,6 +6,10 @@ use Rattle.std.specs.Io.KnownBytes.{Consumes}
 abbrev pub Spends : {E : Type 0} → ℕ → ℕ → Result ℕ E → Type 0
 Spends before now result = MatchResult result (λ count. count + now ≡ before) (λ _. now ≡ before)
 
+-- the most bytes that one read asks for
+abbrev pub piece_limit : ℕ
+piece_limit = 4096
+
 -- more than the limit, where there is one
 abbrev pub Exceeds : Option ℕ → ℕ → Type 0
 Exceeds None count = ⊥

@@ -1,4 +1,4 @@
-// The outside of the program: sources, sinks, the words of a command line, and want of memory.
+//! The outside of the program: sources, sinks, the words of a command line, and want of memory.
 #![tactic(auto)]
 
 mod memory_sink;
@@ -21,6 +21,6 @@ pub use planned_sink::PlannedSink;
 pub use planned_source::PlannedSource;
 pub use refused::{Failed, NoMemory};
 pub use sink::{Sink, send_all};
-pub use source::{ReadStop, Source, read_all};
+pub use source::{PIECE_LIMIT, ReadStop, Source, read_all};
 pub use streams::{StdSink, StdSource};
 pub use words::Words;

@@ -8,8 +8,8 @@ ghost use Rattle.edge.specs.Streams.{Spends, Exceeds, Gave};
 use crate::Failed;
 use std::alloc::Global;
 
-/// How many bytes one read asks for.
-const PIECE: usize = 4096;
+/// How many bytes one read asks for; `piece_limit` of the specs.
+pub const PIECE_LIMIT: usize = 4096;
 
 /// Why a source was not read to its end.
 #[derive(Clone, Copy, Debug, PartialEq, Eq)]
@@ -64,7 +64,7 @@ pub fn read_all<S: Source>(
     ensures quiet { result ≢ Err ReadStop.Failed → S.faults source.new ≡ S.faults source.old }
 {
     let mut bytes = Vec::new(alloc);
-    let mut piece = [0u8; PIECE];
+    let mut piece = [0u8; PIECE_LIMIT];
     loop {
         let Ok(count) = source.read(&mut piece) else {
             return Err(ReadStop::Failed);

@@ -1,4 +1,4 @@
-// The copies of an agent over one atom.
+//! The copies of an agent over one atom.
 
 use crate::numbers::{push_clauses, push_copy};
 use agent_copies::{Counted, copy_agent};
@@ -9,7 +9,7 @@ use merge_model::{Drastic, Hamming};
 use std::alloc::Global;
 use std::test::Fail;
 
-// The own literal, the root, the outputs of the distance and then the clauses, with 0 before each.
+/// The own literal, the root, the outputs of the distance and then the clauses, with 0 before each.
 fn copied<D: Counted>(alloc: Global, distance: &D) -> Result<Vec<i64>, NoMemory> {
     let mut clauses = ClauseList::new(alloc);
     let shared = [clauses.fresh()];
@@ -20,12 +20,12 @@ fn copied<D: Counted>(alloc: Global, distance: &D) -> Result<Vec<i64>, NoMemory>
     Ok(numbers)
 }
 
-// The base over the own literal, and the difference of the two literals, which is counted.
+/// The base over the own literal, and the difference of the two literals, which is counted.
 const HAMMING: [i64; 25] = [
     2, 3, 4, 0, 2, -3, 0, -2, 3, 0, 1, 2, -4, 0, -1, -2, -4, 0, -1, 2, 4, 0, 1, -2, 4,
 ];
 
-// The same, and that some difference is there.
+/// The same, and that some difference is there.
 const DRASTIC: [i64; 31] = [
     2, 3, 5, 0, 2, -3, 0, -2, 3, 0, 1, 2, -4, 0, -1, -2, -4, 0, -1, 2, 4, 0, 1, -2, 4, 0, -4, 5, 0,
     4, -5,

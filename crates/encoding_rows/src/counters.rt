@@ -1,4 +1,4 @@
-// The variables, outputs and clauses of small counters, with 0 before each clause.
+//! The variables, outputs and clauses of small counters, with 0 before each clause.
 
 use crate::numbers::counted;
 use clause_store::{ClauseList, Lit};
@@ -7,7 +7,7 @@ use std::alloc::Global;
 use std::test::Fail;
 use totalizer::{either, leaf, leaves, plus, total};
 
-// The literal that says that variables 1 and 2 are both true, and their sum.
+/// The literal that says that variables 1 and 2 are both true, and their sum.
 fn sum_of_two(alloc: Global) -> Result<(Lit, Vec<i64>), NoMemory> {
     let mut clauses = ClauseList::new(alloc);
     let left = leaf(alloc, clauses.fresh().var)?;
@@ -16,7 +16,7 @@ fn sum_of_two(alloc: Global) -> Result<(Lit, Vec<i64>), NoMemory> {
     Ok((sum.at_least(2), counted(alloc, &sum, &clauses)?))
 }
 
-// The outputs of the total of variables 1 and 2, and the total.
+/// The outputs of the total of variables 1 and 2, and the total.
 fn total_of_two(alloc: Global) -> Result<(Vec<u32>, Vec<i64>), NoMemory> {
     let mut clauses = ClauseList::new(alloc);
     let vars = [clauses.fresh().var, clauses.fresh().var];
@@ -26,7 +26,7 @@ fn total_of_two(alloc: Global) -> Result<(Vec<u32>, Vec<i64>), NoMemory> {
     Ok((sum.into_outputs(), numbers))
 }
 
-// The total of variable 1 given twice.
+/// The total of variable 1 given twice.
 fn total_of_one_twice(alloc: Global) -> Result<Vec<i64>, NoMemory> {
     let mut clauses = ClauseList::new(alloc);
     let part = leaf(alloc, clauses.fresh().var)?;
@@ -35,7 +35,7 @@ fn total_of_one_twice(alloc: Global) -> Result<Vec<i64>, NoMemory> {
     counted(alloc, &sum, &clauses)
 }
 
-// How many outputs there are for whether variable 1 or 2 is true, and the counter of it.
+/// How many outputs there are for whether variable 1 or 2 is true, and the counter of it.
 fn either_of_two(alloc: Global) -> Result<(u32, Vec<i64>), NoMemory> {
     let mut clauses = ClauseList::new(alloc);
     let vars = [clauses.fresh().var, clauses.fresh().var];

@@ -1,4 +1,4 @@
-// The clauses of small formulas, with 0 before each.
+//! The clauses of small formulas, with 0 before each.
 
 use crate::numbers::push_clauses;
 use clause_store::{ClauseList, Lit};
@@ -8,7 +8,7 @@ use formulas::Formula;
 use std::alloc::Global;
 use std::test::Fail;
 
-// Truth over no atom.
+/// Truth over no atom.
 fn truth(alloc: Global) -> Result<(Lit, Vec<i64>), NoMemory> {
     let mut clauses = ClauseList::new(alloc);
     let root = define(&mut clauses, &Formula::Top, &[])?;
@@ -17,7 +17,7 @@ fn truth(alloc: Global) -> Result<(Lit, Vec<i64>), NoMemory> {
     Ok((root, numbers))
 }
 
-// The negation of the only atom.
+/// The negation of the only atom.
 fn negated_atom(alloc: Global) -> Result<(Lit, Vec<i64>), NoMemory> {
     let mut clauses = ClauseList::new(alloc);
     let atom = clauses.fresh();

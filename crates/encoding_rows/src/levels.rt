@@ -1,4 +1,4 @@
-// The order of vectors, and level values that keep it.
+//! The order of vectors, and level values that keep it.
 
 use aggregators::Levelled;
 use merge_model::{Aggregator, Leximax, Max, Sum};

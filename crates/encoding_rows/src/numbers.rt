@@ -1,4 +1,4 @@
-// Literals and clauses as numbers.
+//! Literals and clauses as numbers.
 
 use agent_copies::AgentCopy;
 use clause_store::{ClauseList, Lit};

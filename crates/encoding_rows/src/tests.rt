@@ -1,4 +1,4 @@
-// The main clauses of a problem over one atom, and what claims assume of its frame.
+//! The main clauses of a problem over one atom, and what claims assume of its frame.
 
 ghost use Rattle.std.specs.Prelude.{◌≡◌, [], ◌∷◌, length, true, IfOk};
 ghost use Rattle.clause_store.specs.Lits.{positive_lit};
@@ -16,7 +16,7 @@ use std::alloc::Global;
 use std::test::Fail;
 use totalizer::Unary;
 
-// Appends the frame's parts in order, with 0 before each copy and level.
+/// Appends the frame's parts in order, with 0 before each copy and level.
 fn push_frame(numbers: &mut Vec<i64>, frame: &Frame) -> Result<(), NoMemory> {
     push_lits(numbers, frame.shared.as_slice())?;
     push_lits(numbers, &[frame.constraint])?;
@@ -32,19 +32,19 @@ fn push_frame(numbers: &mut Vec<i64>, frame: &Frame) -> Result<(), NoMemory> {
     Ok(())
 }
 
-// Of an atom a: the constraint !a, an agent p that believes a, and the query !a.
+/// Of an atom a: the constraint !a, an agent p that believes a, and the query !a.
 fn small_problem(alloc: Global) -> Result<Problem, Fail> {
     Ok(read_problem(alloc, b"atoms a\nconstraint !a\nagent p : a\nask !a\n")?)
 }
 
-// For Hamming and the sum: the frame's parts, and then the clauses, with 0 before each.
+/// For Hamming and the sum: the frame's parts, and then the clauses, with 0 before each.
 const NUMBERS: [i64; 55] = [
     1, 3, 5, 0, 6, 7, 8, 0, 8, //
     0, 1, -2, 0, -1, 2, 0, -2, -3, 0, 2, 3, 0, 1, -4, 0, -1, 4, 0, -4, -5, 0, 4, 5, 0, 6, -7, 0,
     -6, 7, 0, 1, 6, -8, 0, -1, -6, -8, 0, -1, 6, 8, 0, 1, -6, 8,
 ];
 
-// Its main clauses by any distance and any aggregator.
+/// Its main clauses by any distance and any aggregator.
 fn small_main<D: Counted, A: Levelled>(
     alloc: Global,
     distance: &D,
@@ -54,7 +54,7 @@ fn small_main<D: Counted, A: Levelled>(
     Ok(encode(alloc, &problem, distance, aggregator)?)
 }
 
-// The numbers of their variables and clauses.
+/// The numbers of their variables and clauses.
 fn sizes<D: Counted, A: Levelled>(
     alloc: Global,
     distance: &D,
@@ -64,7 +64,7 @@ fn sizes<D: Counted, A: Levelled>(
     Ok((main.clauses.vars(), main.clauses.len()))
 }
 
-// The parts of their frame and then they themselves, with 0 before each.
+/// The parts of their frame and then they themselves, with 0 before each.
 fn main_numbers(alloc: Global, main: &Main) -> Result<Vec<i64>, NoMemory> {
     let mut numbers = Vec::new(alloc);
     push_frame(&mut numbers, &main.frame)?;
@@ -72,7 +72,7 @@ fn main_numbers(alloc: Global, main: &Main) -> Result<Vec<i64>, NoMemory> {
     Ok(numbers)
 }
 
-// Those for Hamming and the sum.
+/// Those for Hamming and the sum.
 fn small_numbers(alloc: Global) -> Result<Vec<i64>, Fail> {
     let main = small_main(alloc, &Hamming, &Sum)?;
     Ok(main_numbers(alloc, &main)?)
@@ -89,7 +89,7 @@ fn a_problem_over_one_atom_has_its_clauses(rt: HostRuntime) -> Result<(), Fail> 
     Ok(())
 }
 
-// The frame of that problem, for Hamming and the sum.
+/// The frame of that problem, for Hamming and the sum.
 fn small_frame(alloc: Global) -> Result<Frame, NoMemory>
     ensures { IfOk result (λ f. f ≡ record {
       shared = positive_lit 1 ∷ [];
@@ -126,27 +126,27 @@ fn one_truth(alloc: Global) -> Result<Sequence<bool>, NoMemory>
     Ok(Sequence::from_vec(vec![in alloc; true]?))
 }
 
-// What the claim that no model is nearer to the agent assumes of that frame.
+/// What the claim that no model is nearer to the agent assumes of that frame.
 fn nearer(alloc: Global) -> Result<Vec<Lit>, NoMemory> {
     let frame = small_frame(alloc)?;
     assumptions(alloc, &frame, &Claim::NoNearer(0, Valuation::new(0, 1), 1))
 }
 
-// What the claim that no level value is less than 1 assumes of it.
+/// What the claim that no level value is less than 1 assumes of it.
 fn better(alloc: Global) -> Result<Vec<Lit>, NoMemory> {
     let values = one_value(alloc)?;
     let frame = small_frame(alloc)?;
     assumptions(alloc, &frame, &Claim::NoBetter(0, values))
 }
 
-// What the claim that no model at 1 breaks the query assumes of it.
+/// What the claim that no model at 1 breaks the query assumes of it.
 fn breaker(alloc: Global) -> Result<Vec<Lit>, NoMemory> {
     let limits = one_value(alloc)?;
     let frame = small_frame(alloc)?;
     assumptions(alloc, &frame, &Claim::NoBreaker(0, limits))
 }
 
-// What the claim that no model at 1 makes the atom true assumes of it.
+/// What the claim that no model at 1 makes the atom true assumes of it.
 fn model_with(alloc: Global) -> Result<Vec<Lit>, NoMemory> {
     let bounds = one_value(alloc)?;
     let prefix = one_truth(alloc)?;
@@ -154,7 +154,7 @@ fn model_with(alloc: Global) -> Result<Vec<Lit>, NoMemory> {
     assumptions(alloc, &frame, &Claim::NoModelWith(bounds, prefix))
 }
 
-// Whether literals are these.
+/// Whether literals are these.
 fn are_numbers(lits: &[Lit], numbers: &[i64]) -> bool {
     lits.len() == numbers.len()
         && lits
@@ -173,7 +173,7 @@ fn claims_assume_literals_of_the_frame(rt: HostRuntime) -> Result<(), Fail> {
     Ok(())
 }
 
-// The agent's literal and the output are true.
+/// The agent's literal and the output are true.
 fn assignment_of_it(alloc: Global) -> Result<Assignment, NoMemory>
     ensures { IfOk result (λ assignment. length assignment ≡ 8) }
 {
@@ -183,7 +183,7 @@ fn assignment_of_it(alloc: Global) -> Result<Assignment, NoMemory>
     Ok(assignment)
 }
 
-// The shared valuation and the agent's own one by that assignment.
+/// The shared valuation and the agent's own one by that assignment.
 fn valuations_of_it(alloc: Global) -> Result<(Valuation, Valuation), NoMemory> {
     let assignment = assignment_of_it(alloc)?;
     let frame = small_frame(alloc)?;
@@ -191,7 +191,7 @@ fn valuations_of_it(alloc: Global) -> Result<(Valuation, Valuation), NoMemory> {
     Ok((frame.shared_valuation(&assignment), own))
 }
 
-// The level values by that assignment.
+/// The level values by that assignment.
 fn values_of_it(alloc: Global) -> Result<Vec<u32>, NoMemory> {
     let assignment = assignment_of_it(alloc)?;
     let frame = small_frame(alloc)?;

@@ -11,24 +11,24 @@ use formulas::{Atoms, Formula};
 
 /// Each text is read as exactly one formula or has exactly one least fault, and never both. Want of
 /// memory is no fault.
-pub fn each_text_has_one_outcome(_text: &[u8], _atoms: &Atoms)
-    ensures has_outcome { IsReadOrStopped (names_of _atoms.now) _text.now }
-    ensures one_formula { (f g : Formula) → IsTextRead (names_of _atoms.now) _text.now f →
-        IsTextRead (names_of _atoms.now) _text.now g → f ≡ g }
+pub fn each_text_has_one_outcome(text: &[u8], atoms: &Atoms)
+    ensures has_outcome { IsReadOrStopped (names_of atoms.now) text.now }
+    ensures one_formula { (f g : Formula) → IsTextRead (names_of atoms.now) text.now f →
+        IsTextRead (names_of atoms.now) text.now g → f ≡ g }
     ensures read_or_stopped { (f : Formula) (stop : FormulaStop) →
-        IsTextRead (names_of _atoms.now) _text.now f →
-        IsTextStop (names_of _atoms.now) _text.now stop → stop ≡ FormulaStop.NoMemory }
-    ensures one_stop { (s t : FormulaStop) → IsTextStop (names_of _atoms.now) _text.now s →
-        IsTextStop (names_of _atoms.now) _text.now t → s ≢ FormulaStop.NoMemory →
+        IsTextRead (names_of atoms.now) text.now f →
+        IsTextStop (names_of atoms.now) text.now stop → stop ≡ FormulaStop.NoMemory }
+    ensures one_stop { (s t : FormulaStop) → IsTextStop (names_of atoms.now) text.now s →
+        IsTextStop (names_of atoms.now) text.now t → s ≢ FormulaStop.NoMemory →
         t ≢ FormulaStop.NoMemory → s ≡ t }
 {}
 
 /// The canonical text of a formula that is not too deep is read as that formula.
-pub fn canonical_text_is_read_back(_formula: &Formula, atoms: &Atoms)
-    requires width { width_of _formula.now ≤ length atoms.now }
-    requires depth { depth_of _formula.now ≤ depth_limit }
+pub fn canonical_text_is_read_back(formula: &Formula, atoms: &Atoms)
+    requires width { width_of formula.now ≤ length atoms.now }
+    requires depth { depth_of formula.now ≤ depth_limit }
     ensures { IsTextRead (names_of atoms.now)
-        (formula_text (names_of atoms.now) _formula.now) _formula.now }
+        (formula_text (names_of atoms.now) formula.now) formula.now }
 {
     // The proof needs the invariant of the atoms, which `len` tells.
     let _count = atoms.len();

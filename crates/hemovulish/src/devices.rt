@@ -1,4 +1,4 @@
-// How a run ends where one of its reads or writes fails, at each place where one can.
+//! How a run ends where one of its reads or writes fails, at each place where one can.
 use edge::{MemorySink, MemorySource, NullSink, PlainSource, Sink, Source, Words};
 use merge_cli::{run, status};
 use std::alloc::Global;
@@ -70,7 +70,7 @@ fn end_with_failing_write(alloc: Global, after: usize) -> Result<(u8, usize), Fa
     end_into(alloc, &mut sink)
 }
 
-// Eleven reads give the text, and the twelfth finds its end.
+/// Eleven reads give the text, and the twelfth finds its end.
 #[test]
 fn a_failed_read_sends_nothing(rt: HostRuntime) -> Result<(), Fail> {
     let alloc = rt.alloc();

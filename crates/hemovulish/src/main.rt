@@ -1,4 +1,4 @@
-// The program: makes the words, the source and the sink, runs, and ends with the status.
+//! The program: makes the words, the source and the sink, runs, and ends with the status.
 #![tactic(auto)]
 
 #[cfg(test)]
@@ -11,8 +11,8 @@ use std::io::ErrorKind;
 use std::process::ExitCode;
 use std::rt::Env;
 
-// The system's arguments without the first, which is the program's own name. The name is never
-// read, so it may have any bytes.
+/// The system's arguments without the first, which is the program's own name. The name is never
+/// read, so it may have any bytes.
 #[derive(Drop)]
 struct AfterName<'a, R> {
     rt: &'a R,
@@ -35,8 +35,8 @@ impl<R: Env> Env for AfterName<'_, R> {
     }
 }
 
-// Adds the arguments behind the program's own name. Where one is not UTF-8, a single empty word,
-// which no command has, stands for all of them.
+/// Adds the arguments behind the program's own name. Where one is not UTF-8, a single empty word,
+/// which no command has, stands for all of them.
 fn add_arguments<R: Env + AllocGlobal>(rt: &R, words: &mut Words) -> Result<(), NoMemory> {
     match env::args(&(AfterName { rt }, rt.alloc())) {
         Ok(arguments) => {

@@ -14,9 +14,6 @@ use Rattle.line_tokens.specs.Cuts.{BeginsWith}
 pub if_true : {X : Type 0} (b : Bool) (x y : X) → b ≡ true → (if b then x else y) ≡ x
 if_true b x y h = ap (λ t. if t then x else y) h
 
-pub if_false : {X : Type 0} (b : Bool) (x y : X) → b ≡ false → (if b then x else y) ≡ y
-if_false b x y h = ap (λ t. if t then x else y) h
-
 pub word_not_bad : (b : ℕ) → is_word_byte b ≡ true → is_bad b ≡ false
 word_not_bad b h = ap (λ t. not (t || is_blank b || is_mark_byte b)) h
 

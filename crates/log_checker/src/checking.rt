@@ -1,4 +1,4 @@
-// Whether a step follows from the clauses before it.
+//! Whether a step follows from the clauses before it.
 ghost use Rattle.std.specs.Prelude.{◌≡◌, ◌≢◌, ◌<◌, length, IsTrue, ◌↔◌, MatchResult, None, Some};
 ghost use Rattle.std.specs.List.{AllByRecursion};
 ghost use Rattle.log_checker.specs.Verdicts.{IsAnswer, IsEnd, are_below, chain_from, verdict_of};

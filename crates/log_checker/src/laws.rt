@@ -1,4 +1,4 @@
-// What checked steps are worth.
+//! What checked steps are worth.
 ghost use Rattle.log_checker.specs.Laws.{AnswerLaw, LogLaw, RefuteLaw, StepLaw};
 
 /// A step has one answer, want of memory apart: so Ok comes exactly where the step follows, and

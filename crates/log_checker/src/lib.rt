@@ -1,5 +1,5 @@
-// The checker of derivation logs: whether a step follows by resolution, and whether a clause
-// refutes assumptions.
+//! The checker of derivation logs: whether a step follows by resolution, and whether a clause
+//! refutes assumptions.
 #![tactic(auto)]
 
 mod checking;

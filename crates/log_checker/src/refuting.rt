@@ -1,4 +1,4 @@
-// Whether a clause refutes assumptions.
+//! Whether a clause refutes assumptions.
 ghost use Rattle.std.specs.Prelude.{◌↔◌, IsTrue};
 ghost use Rattle.clause_store.specs.Refutes.{Refutes};
 

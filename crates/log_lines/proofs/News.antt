@@ -1,5 +1,5 @@
 -- Clauses that are new, one after another.
-use Rattle.std.proofs.Common.{◌≡◌, ℕ, zero, suc, ◌+◌, ◌<◌, ◌≤◌, Bool, true, false, cond, not, ◌&&◌, ◌||◌, List, [], ◌∷◌, ◌++◌, length, take, drop, Some, refl, ap, sym, ◌∙◌, append_assoc, append-nil, arith}
+use Rattle.std.proofs.Common.{◌≡◌, ℕ, zero, suc, ◌+◌, ◌<◌, ◌≤◌, Bool, true, false, cond, not, ◌&&◌, List, [], ◌∷◌, ◌++◌, length, take, drop, Some, refl, ap, sym, ◌∙◌, append_assoc, append-nil, arith}
 use Rattle.std.specs.Prelude.{slice_get, Option, unwrap_or}
 use Rattle.std.specs.List.{list_any}
 use Rattle.std.proofs.lemmas.Grind.{common_steps}
@@ -9,14 +9,6 @@ use Rattle.clause_store.specs.Clauses.{clause_at}
 use Rattle.derivation_log.specs.declared.step.StepKind.{StepKind}
 use Rattle.derivation_log.specs.Logs.{is_learned}
 use Rattle.log_lines.specs.Spending.{Noted, noted_of, includes, learned_clauses, is_new_at, are_new, earlier}
-
-or_left : (a b : Bool) → a ≡ true → (a || b) ≡ true
-or_left true b e = refl
-or_left false b e = absurd (cc)
-
-or_right : (a b : Bool) → b ≡ true → (a || b) ≡ true
-or_right true b e = refl
-or_right false b e = e
 
 pub and_is : (a b : Bool) → a ≡ true → (a && b) ≡ b
 and_is true b e = refl

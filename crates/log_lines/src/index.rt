@@ -1,4 +1,4 @@
-// Clauses of a list, each in the row of one of its literals, so that few of them need a look.
+//! Clauses of a list, each in the row of one of its literals, so that few of them need a look.
 ghost use Rattle.std.specs.Prelude.{◌≡◌, ℕ, ◌+◌, ◌<◌, ◌≤◌, List, [], ◌∷◌, ◌++◌, length, true};
 ghost use Rattle.std.specs.Prelude.{false, IsTrue, IfOk, MatchOption, slice_set, slice_index_or};
 ghost use Rattle.std.specs.List.{list_any};
@@ -12,22 +12,22 @@ use clause_store::{ClauseList, Lit, has_lit};
 use edge::NoMemory;
 use std::alloc::Global;
 
-// No clause.
+/// No clause.
 const END: u32 = u32::MAX;
 
 /// Clauses of a list. Each but the empty one stands in the row of one of its literals.
 #[derive(Drop)]
 pub struct Index {
-    // by rank of a literal: the first clause of its row
+    /// By rank of a literal: the first clause of its row.
     heads: Vec<u32>,
-    // by number of a clause: the next one of its row
+    /// By number of a clause: the next one of its row.
     next: Vec<u32>,
-    // whether the empty clause is among them
+    /// Whether the empty clause is among them.
     empty: bool,
 }
 
-// The last literal of a clause that is not in the other: many clauses share their first literals,
-// and few their last.
+/// The last literal of a clause that is not in the other: many clauses share their first literals,
+/// and few their last.
 fn outside(inner: &[Lit], outer: &[Lit]) -> Option<Lit>
     ensures { MatchOption result (includes outer.now inner.now ≡ true)
         (λ l. (has l inner.now ≡ true) × (has l outer.now ≡ false)) }
@@ -98,8 +98,8 @@ impl Index {
         false
     }
 
-    // Whether the clause includes one of the row of its literal. Where it does not, each of the row
-    // goes to that of a literal outside the clause.
+    /// Whether the clause includes one of the row of its literal. Where it does not, each of the
+    /// row goes to that of a literal outside the clause.
     fn has_in_row(&mut self, known: &ClauseList, clause: &[Lit], lit: Lit) -> bool
         requires index { IsAnIndex self.old known.now }
         requires own { has lit clause.now ≡ true }
@@ -134,7 +134,7 @@ impl Index {
         false
     }
 
-    // Puts a clause in front of a row.
+    /// Puts a clause in front of a row.
     fn push(&mut self, row: usize, number: u32)
         requires row { row < length self.old.heads.items }
         requires number { number < length self.old.next.items }

@@ -1,4 +1,4 @@
-// Whether the last steps of a log are learned and new.
+//! Whether the last steps of a log are learned and new.
 ghost use Rattle.std.specs.Prelude.{◌≡◌, ◌+◌, ◌<◌, ◌≤◌, Some, IsTrue, IfOk, length, slice_get};
 ghost use Rattle.std.specs.Prelude.{take, drop};
 ghost use Rattle.derivation_log.specs.Logs.{is_learned};
@@ -27,7 +27,7 @@ fn kind_at(kinds: &[StepKind], k: usize) -> StepKind
     kinds[k]
 }
 
-// The main clauses, so many.
+/// The main clauses, so many.
 fn index_main(alloc: Global, known: &ClauseList, main: u64) -> Result<Index, NoMemory>
     requires { main ≤ length known.now.list }
     ensures { IfOk result (λ index. IsIndexOf index known.now (take main known.now.list) main) }
@@ -39,7 +39,7 @@ fn index_main(alloc: Global, known: &ClauseList, main: u64) -> Result<Index, NoM
     Ok(index)
 }
 
-// The clause of a step joins where the step is learned.
+/// The clause of a step joins where the step is learned.
 fn add_learned(index: &mut Index, known: &ClauseList, main: u64, kinds: &[StepKind], step: usize)
     requires step { step < length kinds.now }
     requires known { main + length kinds.now ≡ length known.now.list }
@@ -55,7 +55,7 @@ fn add_learned(index: &mut Index, known: &ClauseList, main: u64, kinds: &[StepKi
     index.add(known, main + step as u64);
 }
 
-// The main clauses and those of the first learned steps, of so many steps.
+/// The main clauses and those of the first learned steps, of so many steps.
 fn index_earlier(
     alloc: Global,
     known: &ClauseList,
@@ -76,8 +76,8 @@ fn index_earlier(
     Ok(index)
 }
 
-// Whether the step is learned and includes no main clause and no clause of an earlier learned step.
-// Its clause joins then.
+/// Whether the step is learned and includes no main clause and no clause of an earlier learned
+/// step. Its clause joins then.
 fn add_new(
     index: &mut Index,
     known: &ClauseList,

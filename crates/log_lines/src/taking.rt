@@ -1,4 +1,4 @@
-// One step line is taken in, or refused.
+//! One step line is taken in, or refused.
 ghost use Rattle.std.specs.Prelude.{◌≡◌, OnErr, nat_le};
 ghost use Rattle.std.specs.List.{list_all};
 ghost use Rattle.log_lines.specs.Taking.{IsTaken, FollowsLaw, NarrowLaw};
@@ -19,7 +19,7 @@ pub enum TakeStop {
     NoMemory,
 }
 
-// Whether each variable is one of so many.
+/// Whether each variable is one of so many.
 fn are_within(lits: &[Lit], vars: u32) -> bool
     ensures { result ≡ list_all (λ lit. nat_le lit.var vars) lits.now }
 {

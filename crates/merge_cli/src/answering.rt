@@ -26,7 +26,7 @@ pub fn text_reply(alloc: Global, command: Command, bytes: &[u8]) -> Result<Reply
     }
 }
 
-// What a command answers to a problem.
+/// What a command answers to a problem.
 fn problem_reply(alloc: Global, command: Command, problem: Problem) -> Result<Reply, NoMemory>
     requires proper { IsProper command }
     requires problem { ReadsProblem command }

@@ -38,7 +38,7 @@ pub fn bench_reply(alloc: Global, number: u64) -> Result<Reply, NoMemory>
     reported(alloc, number, &report)
 }
 
-// What `bench` answers where this is the report on its problem.
+/// What `bench` answers where this is the report on its problem.
 fn reported(alloc: Global, number: u64, report: &Report) -> Result<Reply, NoMemory>
     requires problem { IsBench number report.now.problem }
     requires distance { report.now.distance ≡ Hamming }
@@ -68,7 +68,7 @@ fn reported(alloc: Global, number: u64, report: &Report) -> Result<Reply, NoMemo
     }
 }
 
-// The number of the problem, the measure, and each verdict.
+/// The number of the problem, the measure, and each verdict.
 fn text_of(
     alloc: Global,
     number: u64,

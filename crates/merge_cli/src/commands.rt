@@ -71,7 +71,7 @@ pub fn command_of(words: &Words) -> Option<Command>
     }
 }
 
-// The list that the words spell, the first of which is `list`.
+/// The list that the words spell, the first of which is `list`.
 fn list_of(words: &Words) -> Option<Command>
     requires { slice_get words.now 0 ≡ Some (codes "list") }
     ensures some { IfSome result (IsCommand words.now) }
@@ -92,7 +92,7 @@ fn list_of(words: &Words) -> Option<Command>
     })
 }
 
-// How many valuations a word asks for.
+/// How many valuations a word asks for.
 fn count_of(word: &str) -> Option<u32>
     ensures some { IfSome result (λ n. (word.now ≡ decimal n) × IsCount n) }
     ensures none { IfNone result ((n : ℕ) → IsCount n → word.now ≢ decimal n) }
@@ -104,7 +104,7 @@ fn count_of(word: &str) -> Option<u32>
     Some(count as u32)
 }
 
-// The number of conflicts that a word states.
+/// The number of conflicts that a word states.
 fn conflicts_of(word: &str) -> Option<u64>
     ensures some { IfSome result (λ n. (word.now ≡ decimal n) × IsBudget n) }
     ensures none { IfNone result ((n : ℕ) → IsBudget n → word.now ≢ decimal n) }
@@ -116,7 +116,7 @@ fn conflicts_of(word: &str) -> Option<u64>
     Some(conflicts)
 }
 
-// The number of a bench problem that a word states.
+/// The number of a bench problem that a word states.
 fn bench_of(word: &str) -> Option<u64>
     ensures some { IfSome result (λ n. (word.now ≡ decimal n) × IsBenchNumber n) }
     ensures none { IfNone result ((n : ℕ) → IsBenchNumber n → word.now ≢ decimal n) }
@@ -128,8 +128,8 @@ fn bench_of(word: &str) -> Option<u64>
     Some(number)
 }
 
-// The most bytes that a command takes, where there is a limit.
-pub(crate) fn limit(command: &Command) -> Option<usize>
+/// The most bytes that a command takes, where there is a limit.
+pub fn limit(command: &Command) -> Option<usize>
     ensures { result ≡ limit_of command.now }
 {
     match command {

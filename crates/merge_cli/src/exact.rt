@@ -1,4 +1,4 @@
-// That each answer comes exactly where its condition holds, as laws of the table of answers.
+//! That each answer comes exactly where its condition holds, as laws of the table of answers.
 ghost use Rattle.std.specs.Prelude.{◌≡◌, ◌≢◌, ℕ, List, Option, length};
 ghost use Rattle.edge.specs.Streams.{Exceeds};
 ghost use Rattle.merge_model.specs.declared.problem.Problem.{Problem};

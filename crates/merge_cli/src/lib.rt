@@ -1,4 +1,4 @@
-// The top call of the program: what the words of a command line ask, answered.
+//! The top call of the program: what the words of a command line ask, answered.
 #![tactic(auto)]
 
 mod answering;

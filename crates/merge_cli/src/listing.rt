@@ -48,7 +48,7 @@ pub fn list_reply(
     }
 }
 
-// The same for a place of the problem.
+/// The same for a place of the problem.
 fn listed_reply(
     alloc: Global,
     distance: DistanceName,
@@ -95,7 +95,7 @@ fn listed_reply(
     }
 }
 
-// The list, as a reply.
+/// The list, as a reply.
 fn list_text_reply(alloc: Global, list: &ClosestList) -> Result<Reply, NoMemory>
     ensures status { IfOk result (λ reply. reply.status ≡ 0) }
     ensures text { IfOk result (λ reply. reply.text.items
@@ -108,7 +108,7 @@ fn list_text_reply(alloc: Global, list: &ClosestList) -> Result<Reply, NoMemory>
     })
 }
 
-// The report of the formulas that have no model.
+/// The report of the formulas that have no model.
 fn lacking_reply(
     alloc: Global,
     distance: DistanceName,
@@ -137,7 +137,7 @@ fn lacking_reply(
     search_reply(alloc, distance, aggregator, outcome)
 }
 
-// The report of a search that gave up.
+/// The report of a search that gave up.
 fn spent_reply(
     alloc: Global,
     distance: DistanceName,
@@ -166,7 +166,7 @@ fn spent_reply(
     search_reply(alloc, distance, aggregator, outcome)
 }
 
-// The report of what a search came to.
+/// The report of what a search came to.
 fn search_reply(
     alloc: Global,
     distance: DistanceName,

@@ -1,4 +1,4 @@
-// Where a list begins.
+//! Where a list begins.
 ghost use Rattle.std.specs.Prelude.{◌≡◌, ◌≤◌, ◌∷◌, [], IfSome, IfNone, All, IsTrue, ◌↔◌, drop};
 ghost use Rattle.std.specs.Prelude.{length, map};
 ghost use Rattle.formulas.specs.Limits.{valuation_limit};
@@ -59,7 +59,7 @@ pub fn place_in(words: &Words) -> Option<Place>
     }
 }
 
-// The place that a word says.
+/// The place that a word says.
 fn place_of(word: &str) -> Option<Place>
     ensures some { IfSome result (IsPlace (word.now ∷ [])) }
     ensures none { IfNone result ((place : At) → IsPlace (word.now ∷ []) place → ⊥) }
@@ -80,7 +80,7 @@ fn are_truth_digits(digits: &[u8]) -> bool
     digits.iter().all(|digit| *digit == b'0' || *digit == b'1')
 }
 
-// The valuation that is true where a digit is `1`.
+/// The valuation that is true where a digit is `1`.
 fn valuation_of(digits: &[u8]) -> Valuation
     requires { length digits.now ≤ valuation_limit }
     ensures { result ≡ map is_one digits.now }

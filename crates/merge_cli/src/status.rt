@@ -1,4 +1,4 @@
-// How a run ends, as the exit status of the program.
+//! How a run ends, as the exit status of the program.
 
 /// The text was answered.
 pub const ANSWERED: u8 = 0;

@@ -55,7 +55,7 @@ pub struct Outcome {
     pub sent: usize,
 }
 
-// What the command asks.
+/// What the command asks.
 fn command_reply<S: Source>(alloc: Global, command: Command, source: &mut S) -> Result<Reply, Stop>
     requires { IsProper command }
     ensures ok { IfOk result (λ reply. Answered (CommandAnswers command)
@@ -80,7 +80,7 @@ fn command_reply<S: Source>(alloc: Global, command: Command, source: &mut S) -> 
     }
 }
 
-// What the words ask.
+/// What the words ask.
 fn reply<S: Source>(alloc: Global, words: &Words, source: &mut S) -> Result<Reply, Stop>
     ensures ok { IfOk result (λ reply. Answered (Answers words.now)
         (S.left source.old) (S.left source.new) (S.room source.old) (S.room source.new)
@@ -103,7 +103,7 @@ fn reply<S: Source>(alloc: Global, words: &Words, source: &mut S) -> Result<Repl
     }
 }
 
-// Sends a reply. A write that fails ends the sending.
+/// Sends a reply; status 5 says that a write failed.
 fn send<K: Sink>(reply: Reply, sink: &mut K) -> Outcome
     requires { reply.status ≢ 5 }
     ensures text { result.text.items ≡ reply.text.items }

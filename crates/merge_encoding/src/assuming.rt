@@ -1,4 +1,4 @@
-// What claims assume.
+//! What claims assume.
 
 ghost use Rattle.std.specs.Prelude.{◌≡◌, ◌≢◌, ℕ, ◌-◌, ◌<◌, ◌≤◌, [], ◌∷◌, ◌++◌, length, map};
 ghost use Rattle.std.specs.Prelude.{slice_index, IfOk, OnOk, AllPairs};
@@ -32,7 +32,7 @@ pub fn assumptions(alloc: Global, frame: &Frame, claim: &Claim) -> Result<Vec<Li
     claim_lits(alloc, frame, claim)
 }
 
-// The literals, claim by claim.
+/// The literals, claim by claim.
 fn claim_lits(alloc: Global, frame: &Frame, claim: &Claim) -> Result<Vec<Lit>, NoMemory>
     requires { IsProperIn frame.now (said claim.now) }
     ensures { IfOk result (λ lits. lits.items ≡ assumed_in frame.now (said claim.now)) }
@@ -61,7 +61,7 @@ fn claim_lits(alloc: Global, frame: &Frame, claim: &Claim) -> Result<Vec<Lit>, N
     }
 }
 
-// One literal alone.
+/// One literal alone.
 fn one_lit(alloc: Global, lit: Lit) -> Result<Vec<Lit>, NoMemory>
     ensures { IfOk result (λ lits. lits.items ≡ lit ∷ []) }
 {
@@ -70,7 +70,7 @@ fn one_lit(alloc: Global, lit: Lit) -> Result<Vec<Lit>, NoMemory>
     Ok(lits)
 }
 
-// Appends the literals that say which values the first literals have.
+/// Appends the literals that say which values the first literals have.
 fn push_signed(lits: &mut Vec<Lit>, shared: &[Lit], values: &[bool]) -> Result<(), NoMemory>
     requires { length values.now ≤ length shared.now }
     ensures { OnOk result (lits.new.items ≡ lits.old.items ++ signed shared.now values.now) }
@@ -84,7 +84,7 @@ fn push_signed(lits: &mut Vec<Lit>, shared: &[Lit], values: &[bool]) -> Result<(
     Ok(())
 }
 
-// The literals that say that the shared literals have the values of the model.
+/// The literals that say that the shared literals have the values of the model.
 fn model_lits(alloc: Global, shared: &[Lit], model: Valuation) -> Result<Vec<Lit>, NoMemory>
     requires size { length model ≡ length shared.now }
     ensures { IfOk result (λ lits. lits.items ≡ signed shared.now model) }
@@ -99,7 +99,7 @@ fn model_lits(alloc: Global, shared: &[Lit], model: Valuation) -> Result<Vec<Lit
     Ok(lits)
 }
 
-// The literals that say that a base has a model below that distance from the model.
+/// The literals that say that a base has a model below that distance from the model.
 fn nearer_lits(
     alloc: Global,
     shared: &[Lit],
@@ -119,7 +119,7 @@ fn nearer_lits(
     Ok(lits)
 }
 
-// The roots of the constraint and of the bases.
+/// The roots of the constraint and of the bases.
 fn root_lits(alloc: Global, constraint: Lit, copies: &[AgentCopy]) -> Result<Vec<Lit>, NoMemory>
     ensures { IfOk result (λ lits. lits.items ≡
         constraint ∷ map (λ (c : Copy). c.root) copies.now) }
@@ -132,7 +132,7 @@ fn root_lits(alloc: Global, constraint: Lit, copies: &[AgentCopy]) -> Result<Vec
     Ok(lits)
 }
 
-// Appends that a level is at most a value, where it could be more.
+/// Appends that a level is at most a value, where it could be more.
 fn push_limit(lits: &mut Vec<Lit>, level: &Unary, value: u32) -> Result<(), NoMemory>
     ensures { OnOk result (lits.new.items ≡ lits.old.items ++ at_most_lits level.now value) }
 {
@@ -142,7 +142,7 @@ fn push_limit(lits: &mut Vec<Lit>, level: &Unary, value: u32) -> Result<(), NoMe
     Ok(())
 }
 
-// Appends that each level is at most its value.
+/// Appends that each level is at most its value.
 fn push_limits(lits: &mut Vec<Lit>, levels: &[Unary], values: &[u32]) -> Result<(), NoMemory>
     requires { length values.now ≡ length levels.now }
     ensures { OnOk result (lits.new.items ≡ lits.old.items ++ each_at_most levels.now values.now) }
@@ -153,7 +153,7 @@ fn push_limits(lits: &mut Vec<Lit>, levels: &[Unary], values: &[u32]) -> Result<
     Ok(())
 }
 
-// The roots, and that each level is at most its value.
+/// The roots, and that each level is at most its value.
 fn limited_lits(alloc: Global, frame: &Frame, values: &[u32]) -> Result<Vec<Lit>, NoMemory>
     requires { FitLevels values.now frame.now.levels }
     ensures { IfOk result (λ lits. lits.items ≡
@@ -164,7 +164,7 @@ fn limited_lits(alloc: Global, frame: &Frame, values: &[u32]) -> Result<Vec<Lit>
     Ok(lits)
 }
 
-// Appends that the levels before one are at most their values, and that one below its value.
+/// Appends that the levels before one are at most their values, and that one below its value.
 fn push_better(
     lits: &mut Vec<Lit>,
     levels: &[Unary],
@@ -182,7 +182,7 @@ fn push_better(
     Ok(())
 }
 
-// The roots, and that the values at the level are better.
+/// The roots, and that the values at the level are better.
 fn better_lits(
     alloc: Global,
     frame: &Frame,

@@ -1,4 +1,4 @@
-// Claims on a problem.
+//! Claims on a problem.
 
 use formulas::Valuation;
 use merge_model::Sequence;

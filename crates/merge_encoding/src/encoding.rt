@@ -1,4 +1,4 @@
-// From a problem to its main clauses.
+//! From a problem to its main clauses.
 
 ghost use Rattle.std.specs.Prelude.{◌≡◌, ◌+◌, ◌*◌, ◌≤◌, ◌++◌, length, map, sum_by, All, IfOk, OnOk};
 ghost use Rattle.clause_store.specs.Limits.{var_limit};
@@ -21,7 +21,7 @@ use merge_model::{Agent, Problem, Sequence};
 use std::alloc::Global;
 use totalizer::Unary;
 
-// Defines formulas over the same literals, one after another: their roots.
+/// Defines formulas over the same literals, one after another: their roots.
 fn define_all(
     alloc: Global,
     clauses: &mut ClauseList,
@@ -46,7 +46,7 @@ fn define_all(
     Ok(roots)
 }
 
-// Copies the agents, one after another.
+/// Copies the agents, one after another.
 fn copy_all<D: Counted>(
     alloc: Global,
     clauses: &mut ClauseList,
@@ -80,7 +80,7 @@ fn copy_all<D: Counted>(
     Ok(copies)
 }
 
-// The counters of the copies.
+/// The counters of the copies.
 fn aways_of(alloc: Global, copies: &[AgentCopy]) -> Result<Vec<Unary>, NoMemory>
     ensures { IfOk result (λ aways. aways.items ≡ map (λ copy. copy.away) copies.now) }
 {
@@ -91,7 +91,7 @@ fn aways_of(alloc: Global, copies: &[AgentCopy]) -> Result<Vec<Unary>, NoMemory>
     Ok(aways)
 }
 
-// How often the agents count.
+/// How often the agents count.
 fn times_of(alloc: Global, agents: &[Agent]) -> Result<Vec<u32>, NoMemory>
     ensures { IfOk result (λ times. times.items ≡ map (λ agent. agent.times) agents.now) }
 {
@@ -102,7 +102,7 @@ fn times_of(alloc: Global, agents: &[Agent]) -> Result<Vec<u32>, NoMemory>
     Ok(times)
 }
 
-// The parts of the main clauses, one after another.
+/// The parts of the main clauses, one after another.
 fn encoded<D: Counted, A: Levelled>(
     alloc: Global,
     problem: &Problem,

@@ -1,4 +1,4 @@
-// The frame of the main clauses.
+//! The frame of the main clauses.
 
 use agent_copies::AgentCopy;
 use clause_store::{ClauseList, Lit};

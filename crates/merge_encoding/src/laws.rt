@@ -1,4 +1,4 @@
-// Laws of the main clauses, for every distance and aggregator.
+//! Laws of the main clauses, for every distance and aggregator.
 
 ghost use Rattle.std.specs.Prelude.{◌≡◌, ◌↔◌, ℕ, suc, Bool, List, take};
 ghost use Rattle.clause_store.specs.Truth.{AreTrue};
@@ -26,10 +26,7 @@ pub fn frame_law<D: Counted, A: Levelled>(distance: &D, aggregator: &A)
     ensures distinct { (p : Profile) (asks : List Tree) → IsLimited p asks →
         let main = main_due (D.due distance.now) (A.levels_due aggregator.now) p asks in
         FrameIsDistinct (frame_of main) }
-{
-    let _distance = distance;
-    let _aggregator = aggregator;
-}
+{}
 
 /// Each claim is true exactly where no assignment satisfies the main clauses with its assumptions.
 /// An assignment that does has valuations that show the claim false.
@@ -45,10 +42,7 @@ pub fn claim_law<D: Counted, A: Levelled>(distance: &D, aggregator: &A)
         IsProper main claim → AreTrue main.clauses b → AllTrue b (assumed main claim) →
         Breaks (D.dist distance.now) (D.most distance.now p.atoms) (A.levels_of aggregator.now)
         p asks claim (truth_of b main.shared) (owns_of b main.copies) }
-{
-    let _distance = distance;
-    let _aggregator = aggregator;
-}
+{}
 
 /// What is assumed of better values at a level reads the values up to that level alone.
 pub fn better_law()

@@ -1,4 +1,4 @@
-// What an assignment says through the frame.
+//! What an assignment says through the frame.
 
 ghost use Rattle.std.specs.Prelude.{◌≡◌, ◌<◌, ◌≤◌, length, IfOk};
 ghost use Rattle.clause_store.specs.Limits.{var_limit};
@@ -46,7 +46,7 @@ impl Frame {
     }
 }
 
-// Whether the literal is true.
+/// Whether the literal is true.
 fn is_true(assignment: &Assignment, lit: Lit) -> bool
     requires { IsWithin (length assignment.now) lit }
     ensures { result ≡ lit_true (values_of assignment.now) lit }
@@ -54,7 +54,7 @@ fn is_true(assignment: &Assignment, lit: Lit) -> bool
     assignment.value(lit.var) == lit.positive
 }
 
-// The values of the literals, as a valuation.
+/// The values of the literals, as a valuation.
 fn valuation_of(assignment: &Assignment, lits: &[Lit]) -> Valuation
     requires few { length lits.now ≤ valuation_limit }
     requires within { InRange (length assignment.now) lits.now }
@@ -67,7 +67,7 @@ fn valuation_of(assignment: &Assignment, lits: &[Lit]) -> Valuation
     valuation
 }
 
-// The value of each counter.
+/// The value of each counter.
 fn counts_of(
     alloc: Global,
     assignment: &Assignment,
@@ -84,7 +84,7 @@ fn counts_of(
     Ok(values)
 }
 
-// How many outputs of a counter are true.
+/// How many outputs of a counter are true.
 fn count(assignment: &Assignment, outputs: &[u32]) -> u32
     requires few { length outputs.now ≤ var_limit }
     requires within { AreVarsWithin (length assignment.now) outputs.now }

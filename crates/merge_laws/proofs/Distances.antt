@@ -19,9 +19,9 @@ filter_alike p q [] h = refl
 filter_alike p q (x ∷ xs) h = cc (h x (inl refl), filter_alike p q xs (λ y m. h y (inr m)))
 
 -- both lists of four parts are within a bound where each part is
-pub all_four : (u w s t : List ℕ) → All (λ k. k ≤ 4096) u → All (λ k. k ≤ 4096) w → All (λ k. k ≤ 4096) s → All (λ k. k ≤ 4096) t → All (λ k. k ≤ 4096) (u ++ w ++ s ++ t)
+pub all_four : (u w s t : List ℕ) → All (λ k. k ≤ distance_limit) u → All (λ k. k ≤ distance_limit) w → All (λ k. k ≤ distance_limit) s → All (λ k. k ≤ distance_limit) t → All (λ k. k ≤ distance_limit) (u ++ w ++ s ++ t)
 all_four u w s t at_u at_w at_s at_t =
-    let small = λ (k : ℕ). k ≤ 4096 in
+    let small = λ (k : ℕ). k ≤ distance_limit in
     All-append small (u ++ w ++ s) t (All-append small (u ++ w) s (All-append small u w at_u at_w) at_s) at_t
 
 pub map_some : {X Y : Type 0} (f : X → Y) (xs : List X) → xs ≢ [] → map f xs ≢ []
@@ -70,9 +70,9 @@ module _ (dist : List Bool → List Bool → ℕ) where
       cc
 
   -- every distance to a base is at most 4,096
-  pub vector_small : IsBounded dist → (n : ℕ) (E F : List Formula) (v : List Bool) → IsGroup n E → length v ≡ n → All (λ k. k ≤ 4096) (vector_of dist F v)
+  pub vector_small : IsBounded dist → (n : ℕ) (E F : List Formula) (v : List Bool) → IsGroup n E → length v ≡ n → All (λ k. k ≤ distance_limit) (vector_of dist F v)
   vector_small bounded n E F v group size =
-      All-map (λ k. k ≤ 4096) (away dist v) F
+      All-map (λ k. k ≤ distance_limit) (away dist v) F
       (λ i f within. away_within dist distance_limit v _ (λ w same. bounded v w same (rw size group.some_atom) (rw size group.few_atoms)))
 
   models_near : IsReflexive dist → (n : ℕ) (E : List Formula) (v : List Bool) → length v ≡ n → All (λ f. IsModel n f v) E → All (λ f. away dist v f ≡ 0) E

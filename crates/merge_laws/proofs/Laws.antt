@@ -2,6 +2,7 @@
 use Rattle.std.proofs.Common.{◌≡◌, ◌≢◌, ℕ, ◌≤◌, Bool, List, [], ◌++◌, length, replicate, All}
 use Rattle.std.specs.List.{AllZip}
 use Rattle.std.specs.List.Sorted.{IsPermutation}
+use Rattle.ranks.specs.Limits.{distance_limit}
 use Rattle.ranks.specs.Ranks.{IsNoWorse}
 
 module _ (dist : List Bool → List Bool → ℕ) where
@@ -16,18 +17,18 @@ module _ (dist : List Bool → List Bool → ℕ) where
 
 module _ (rank : List ℕ → List ℕ) where
   abbrev pub IsUnordered : Type 0
-  IsUnordered = (u w : List ℕ) → All (λ k. k ≤ 4096) u → u ≢ [] → IsPermutation u w → rank u ≡ rank w
+  IsUnordered = (u w : List ℕ) → All (λ k. k ≤ distance_limit) u → u ≢ [] → IsPermutation u w → rank u ≡ rank w
 
   abbrev pub IsMonotone : Type 0
-  IsMonotone = (u w : List ℕ) → All (λ k. k ≤ 4096) w → u ≢ [] → AllZip (λ j k. j ≤ k) u w → IsNoWorse rank u w
+  IsMonotone = (u w : List ℕ) → All (λ k. k ≤ distance_limit) w → u ≢ [] → AllZip (λ j k. j ≤ k) u w → IsNoWorse rank u w
 
   abbrev pub HasZeroLeast : Type 0
-  HasZeroLeast = (u : List ℕ) → All (λ k. k ≤ 4096) u → u ≢ [] → IsNoWorse rank u (replicate (length u) 0) → u ≡ replicate (length u) 0
+  HasZeroLeast = (u : List ℕ) → All (λ k. k ≤ distance_limit) u → u ≢ [] → IsNoWorse rank u (replicate (length u) 0) → u ≡ replicate (length u) 0
 
   abbrev pub IsJoined : Type 0
-  IsJoined = (u w s t : List ℕ) → All (λ k. k ≤ 4096) (u ++ w ++ s ++ t) → u ≢ [] → s ≢ [] → length u ≡ length w → length s ≡ length t →
+  IsJoined = (u w s t : List ℕ) → All (λ k. k ≤ distance_limit) (u ++ w ++ s ++ t) → u ≢ [] → s ≢ [] → length u ≡ length w → length s ≡ length t →
       IsNoWorse rank u w → IsNoWorse rank s t → IsNoWorse rank (u ++ s) (w ++ t)
 
   abbrev pub IsStrict : Type 0
-  IsStrict = (u w s t : List ℕ) → All (λ k. k ≤ 4096) (u ++ w ++ s ++ t) → u ≢ [] → s ≢ [] → length u ≡ length w → length s ≡ length t →
+  IsStrict = (u w s t : List ℕ) → All (λ k. k ≤ distance_limit) (u ++ w ++ s ++ t) → u ≢ [] → s ≢ [] → length u ≡ length w → length s ≡ length t →
       IsNoWorse rank u w → IsNoWorse rank s t → IsNoWorse rank (w ++ t) (u ++ s) → IsNoWorse rank w u × IsNoWorse rank t s

@@ -9,6 +9,7 @@ use Rattle.std.proofs.lemmas.List.Sorted.{IsPermutation-map, IsPermutation-appen
 use Rattle.std.proofs.lemmas.List.Elements.{All-append, All-cons, All-head, All-tail, All-weaker}
 use Rattle.formulas.specs.declared.formula.Formula.{Formula}
 use Rattle.formulas.specs.declared.formula.Formula.TheViews.{And}
+use Rattle.ranks.specs.Limits.{distance_limit}
 use Rattle.ranks.specs.Ranks.{IsNoWorse}
 use Rattle.merge_model.specs.Merging.{IsModel, HasModel, away, vector_of}
 use Rattle.merge_model.proofs.Fulls.{IsBounded}
@@ -113,7 +114,7 @@ module _ (dist : List Bool → List Bool → ℕ) (rank : List ℕ → List ℕ)
   keeps_agreement bounded joined n c E F v group_E group_F e f =
       member dist rank n c (E ++ F) v (All-append (HasModel n) E F e.consistent f.consistent) e.model
       (λ w m.
-      let small : (u : List Bool) → length u ≡ n → (G : List Formula) → All (λ k. k ≤ 4096) (vector_of dist G u) =
+      let small : (u : List Bool) → length u ≡ n → (G : List Formula) → All (λ k. k ≤ distance_limit) (vector_of dist G u) =
       λ u size G. vector_small dist bounded n E G u group_E size in
       rw (map-append (away dist v) E F, map-append (away dist w) E F)
       (joined (vector_of dist E v) (vector_of dist E w) (vector_of dist F v) (vector_of dist F w)
@@ -125,7 +126,7 @@ module _ (dist : List Bool → List Bool → ℕ) (rank : List ℕ → List ℕ)
 
   pub keeps_to_agreement : IsBounded dist → IsStrict rank → KeepsToAgreement (merging dist rank)
   keeps_to_agreement bounded strict n c E F u v group_E group_F e f h =
-      let small : (w : List Bool) → length w ≡ n → (G : List Formula) → All (λ k. k ≤ 4096) (vector_of dist G w) =
+      let small : (w : List Bool) → length w ≡ n → (G : List Formula) → All (λ k. k ≤ distance_limit) (vector_of dist G w) =
       λ w size G. vector_small dist bounded n E G w group_E size in
       let whole : IsNoWorse rank (vector_of dist E v ++ vector_of dist F v) (vector_of dist E u ++ vector_of dist F u) =
       rw (map-append (away dist v) E F, map-append (away dist u) E F) at (member_best dist rank n c (E ++ F) v u h e.model) in

@@ -83,7 +83,7 @@ impl Distance for Drastic {
         if left.bits == right.bits { 0 } else { 1 }
     }
 
-    fn top(&self, _atoms: u32) -> u32 {
+    fn top(&self, atoms: u32) -> u32 {
         1
     }
 }

@@ -25,7 +25,7 @@ use tables::{base_models, models};
 use walk::Walk;
 
 /// The most atoms of a problem that is merged by going through all valuations.
-pub const ENUMERATION_LIMIT: usize = 8;
+pub const ENUMERATION_LIMIT: u32 = 8;
 
 /// Merges a problem of at most `ENUMERATION_LIMIT` atoms by going through all valuations;
 /// `NoMemory` for want of memory.

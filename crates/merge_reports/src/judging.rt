@@ -1,4 +1,4 @@
-// The answer where each formula has a model.
+//! The answer where each formula has a model.
 ghost use Rattle.std.specs.Prelude.{◌≡◌, ◌<◌, length, MatchResult};
 ghost use Rattle.cdcl_core.specs.Replies.{IsLonger};
 ghost use Rattle.distance_search.specs.Results.{IsConsistent, IsBestFor, IsBest};

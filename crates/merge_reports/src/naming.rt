@@ -1,4 +1,4 @@
-// The answer where some formula has no model.
+//! The answer where some formula has no model.
 ghost use Rattle.std.specs.Prelude.{◌≡◌, ◌++◌, IfOk, OnOk};
 ghost use Rattle.merge_reports.specs.Proofs.{lack_proof, entry_of, entry_proofs, naming_answer};
 ghost use Rattle.merge_reports.specs.Proofs.{naming_proofs};

@@ -1,4 +1,4 @@
-// What a search comes to.
+//! What a search comes to.
 ghost use Rattle.std.specs.Prelude.{◌≡◌, ◌≤◌, IfOk, MatchResult};
 ghost use Rattle.report_lines.specs.Accepted.{operator};
 ghost use Rattle.report_lines.specs.Operators.{operator_named};

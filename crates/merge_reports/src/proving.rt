@@ -1,4 +1,4 @@
-// The steps of an answer, as proofs of its claims.
+//! The steps of an answer, as proofs of its claims.
 ghost use Rattle.std.specs.Prelude.{◌≡◌, ◌++◌, IfOk, OnOk};
 ghost use Rattle.merge_reports.specs.Proofs.{far_proofs, least_proofs, best_proofs};
 

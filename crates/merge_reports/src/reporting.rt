@@ -1,4 +1,4 @@
-// Reports.
+//! Reports.
 ghost use Rattle.std.specs.Prelude.{◌≡◌, ◌≤◌, IfOk};
 ghost use Rattle.report_lines.specs.Places.{conflict_limit};
 ghost use Rattle.report_lines.specs.Parts.{HasForm};

@@ -1,4 +1,4 @@
-// Leaving out the steps that show nothing of an answer.
+//! Leaving out the steps that show nothing of an answer.
 ghost use Rattle.std.specs.Prelude.{◌≡◌, ◌≤◌, ◌<◌, false, length, map, IfOk};
 ghost use Rattle.std.specs.List.{AllByRecursion};
 ghost use Rattle.derivation_log.specs.Logs.{known_of, IsSound};

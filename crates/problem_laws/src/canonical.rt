@@ -18,45 +18,45 @@ use problem_reading::Reading;
 
 /// Each line of the canonical text has the form of what it was written for: the atoms, the
 /// constraint, each agent with its name and how often it counts, and each query.
-pub fn canonical_lines_have_their_forms(_problem: &Problem)
-    ensures atoms { let names = names_of _problem.now.atoms in
-        form_of (lexemes_of (atoms_line _problem.now.atoms)) ≡ declaration names }
-    ensures constraint { let names = names_of _problem.now.atoms in
-        form_of (lexemes_of (constraint_line names _problem.now.constraint))
-        ≡ condition (lexemes_of (formula_text names _problem.now.constraint)) }
-    ensures agents { let names = names_of _problem.now.atoms in
+pub fn canonical_lines_have_their_forms(problem: &Problem)
+    ensures atoms { let names = names_of problem.now.atoms in
+        form_of (lexemes_of (atoms_line problem.now.atoms)) ≡ declaration names }
+    ensures constraint { let names = names_of problem.now.atoms in
+        form_of (lexemes_of (constraint_line names problem.now.constraint))
+        ≡ condition (lexemes_of (formula_text names problem.now.constraint)) }
+    ensures agents { let names = names_of problem.now.atoms in
         All (λ agent. form_of (lexemes_of (agent_line names agent))
         ≡ belief agent.name agent.times (lexemes_of (formula_text names agent.base)))
-        _problem.now.agents }
-    ensures asks { let names = names_of _problem.now.atoms in
+        problem.now.agents }
+    ensures asks { let names = names_of problem.now.atoms in
         All (λ ask. form_of (lexemes_of (ask_line names ask))
-        ≡ query (lexemes_of (formula_text names ask))) _problem.now.asks }
+        ≡ query (lexemes_of (formula_text names ask))) problem.now.asks }
 {}
 
 /// The canonical text has the lines that it was written for, and no comment stands in them.
-pub fn canonical_text_has_its_lines(_problem: &Problem)
-    ensures lines { lines_of (problem_text _problem.now) ≡ problem_lines _problem.now }
-    ensures contents { All (λ line. content_of line ≡ line) (problem_lines _problem.now) }
+pub fn canonical_text_has_its_lines(problem: &Problem)
+    ensures lines { lines_of (problem_text problem.now) ≡ problem_lines problem.now }
+    ensures contents { All (λ line. content_of line ≡ line) (problem_lines problem.now) }
 {}
 
 /// Each line of the canonical text is the canonical next one after those before it.
-pub fn canonical_lines_come_next(_problem: &Problem)
+pub fn canonical_lines_come_next(problem: &Problem)
     ensures { (before rest : List (List ℕ)) (line : List ℕ) →
-        problem_lines _problem.now ≡ before ++ line ∷ rest → IsCanonicalNext before line }
+        problem_lines problem.now ≡ before ++ line ∷ rest → IsCanonicalNext before line }
 {}
 
 /// The text that is written for a problem spells it and no other, and has no first fault. So
 /// reading that text answers this problem or want of memory.
-pub fn canonical_text_spells_its_problem(_problem: &Problem)
-    ensures spelled { Spelled (problem_text _problem.now) _problem.now }
-    ensures no_other { (read : Problem) → Spelled (problem_text _problem.now) read →
-        SameProblem read _problem.now }
-    ensures no_fault { (fault : TextFault) → FirstFault (problem_text _problem.now) fault → ⊥ }
+pub fn canonical_text_spells_its_problem(problem: &Problem)
+    ensures spelled { Spelled (problem_text problem.now) problem.now }
+    ensures no_other { (read : Problem) → Spelled (problem_text problem.now) read →
+        SameProblem read problem.now }
+    ensures no_fault { (fault : TextFault) → FirstFault (problem_text problem.now) fault → ⊥ }
 {}
 
 /// Lines that are each canonical after those before them, and come in the order of a canonical
 /// text, are the lines of the canonical text of the problem that they spell.
-pub fn canonical_order(_reading: &Reading)
-    ensures { (place : Place) (p : Problem) → InOrder place _reading.now →
-        Spell _reading.now p → _reading.now ≡ problem_lines p }
+pub fn canonical_order(reading: &Reading)
+    ensures { (place : Place) (p : Problem) → InOrder place reading.now →
+        Spell reading.now p → reading.now ≡ problem_lines p }
 {}

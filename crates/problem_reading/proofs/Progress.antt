@@ -1,5 +1,5 @@
 -- How far the lines of a text were read.
-use Rattle.std.proofs.Common.{◌≡◌, ℕ, ◌+◌, ◌≤◌, ◌<◌, Bool, true, false, not, ◌==◌, List, [], ◌∷◌, ◌++◌, length, take, drop, cond, if◌then◌else◌, append_assoc, append-nil, length-append, refl, ap, sym, ◌∙◌, inl, arith, suc, zero}
+use Rattle.std.proofs.Common.{◌≡◌, ℕ, ◌+◌, ◌≤◌, ◌<◌, Bool, true, false, not, ◌==◌, List, [], ◌∷◌, ◌++◌, length, take, drop, cond, if◌then◌else◌, refl, ap, sym, ◌∙◌, inl, arith, suc, zero}
 use Rattle.std.specs.List.{prefix_len}
 use Rattle.problem_lines.specs.Lines.{lines_of, with_byte}
 use Rattle.problem_reading.specs.declared.stop.TextStop.{TextStop}
@@ -35,13 +35,6 @@ pub record IsReadTo (bytes rest : List ℕ) (before : List (List ℕ)) : Type 0 
   pub lines : before ++ lines_of rest ≡ lines_of bytes
   pub room : length before + length rest ≤ length bytes
 
-pub read_on : (bytes rest after line : List ℕ) (before : List (List ℕ)) → IsReadTo bytes rest before → lines_of rest ≡ line ∷ lines_of after →
-    length after < length rest → IsReadTo bytes after (before ++ line ∷ [])
-read_on bytes rest after line before is cut shorter = record {
-  lines = append_assoc before (line ∷ []) (lines_of after) ∙ ap (λ ls. before ++ ls) (sym cut) ∙ is.lines;
-  room = omega (arith, length-append before (line ∷ []), is.room, shorter);
-}
-
 pub stops_here : (bytes rest after line : List ℕ) (before : List (List ℕ)) (stop : TextStop) → IsReadTo bytes rest before → lines_of rest ≡ line ∷ lines_of after →
     StopsAfter before line stop → StopsText bytes stop
 stops_here bytes rest after line before NoMemory is cut h = tt
@@ -55,10 +48,6 @@ stops_here bytes rest after line before (Fault fault) is cut h = inl (record {
   number = h.0;
   least = h.1.2;
 })
-
--- all lines were read
-pub all_read : (bytes rest : List ℕ) (before : List (List ℕ)) → IsReadTo bytes rest before → rest ≡ [] → before ≡ lines_of bytes
-all_read bytes rest before is e = sym (append-nil before) ∙ ap (λ r. before ++ lines_of r) (sym e) ∙ is.lines
 
 pub drop_suc : (n : ℕ) (xs : List ℕ) → drop (suc n) xs ≡ drop 1 (drop n xs)
 drop_suc zero xs = refl

@@ -1,4 +1,4 @@
-// Lines that only clauses see.
+//! Lines that only clauses see.
 ghost use Rattle.std.specs.Prelude.{◌≡◌, ℕ, List, [], ◌∷◌, ◌++◌};
 ghost use Rattle.std.specs.Borrow.{ftrue};
 
@@ -23,8 +23,8 @@ impl Past {
     }
 
     /// The lines with one more at their end.
-    pub fn with(_before: &Past, _line: &[u8]) -> Past
-        ensures { result.lines ≡ _before.now.lines ++ _line.now ∷ [] }
+    pub fn with(before: &Past, line: &[u8]) -> Past
+        ensures { result.lines ≡ before.now.lines ++ line.now ∷ [] }
     {
         Past {}
     }

@@ -1,4 +1,4 @@
-// Laws of reports: each text has one verdict.
+//! Laws of reports: each text has one verdict.
 #![tactic(auto)]
 
 mod verdicts;

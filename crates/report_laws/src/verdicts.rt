@@ -1,4 +1,4 @@
-// That each text is accepted or refused.
+//! That each text is accepted or refused.
 ghost use Rattle.std.specs.Prelude.{◌≡◌, ℕ};
 ghost use Rattle.report_lines.specs.declared.kinds.Kind.{Kind};
 ghost use Rattle.report_lines.specs.declared.kinds.RefusedKind.{RefusedKind};
@@ -7,11 +7,11 @@ ghost use Rattle.report_laws.specs.HasVerdict.{HasVerdict};
 
 /// Each text is accepted as a report of exactly one kind, or has exactly one first wrong line,
 /// which is wrong in one way, and never both.
-pub fn each_report_has_one_verdict(_bytes: &[u8])
-    ensures has_verdict { HasVerdict _bytes.now }
-    ensures one_kind { (k j : Kind) → IsAccepted _bytes.now k → IsAccepted _bytes.now j → k ≡ j }
-    ensures one_line { (m n : ℕ) (k j : RefusedKind) → IsFirstWrong _bytes.now m k →
-        IsFirstWrong _bytes.now n j → (m ≡ n) × (k ≡ j) }
+pub fn each_report_has_one_verdict(bytes: &[u8])
+    ensures has_verdict { HasVerdict bytes.now }
+    ensures one_kind { (k j : Kind) → IsAccepted bytes.now k → IsAccepted bytes.now j → k ≡ j }
+    ensures one_line { (m n : ℕ) (k j : RefusedKind) → IsFirstWrong bytes.now m k →
+        IsFirstWrong bytes.now n j → (m ≡ n) × (k ≡ j) }
     ensures never_both { (answer : Kind) (line : ℕ) (k : RefusedKind) →
-        IsAccepted _bytes.now answer → IsFirstWrong _bytes.now line k → ⊥ }
+        IsAccepted bytes.now answer → IsFirstWrong bytes.now line k → ⊥ }
 {}

@@ -9,6 +9,7 @@ use Rattle.std.proofs.lemmas.List.Elements.{All-map}
 use Rattle.formulas.specs.declared.formula.Formula.{Formula}
 use Rattle.formulas.specs.declared.formula.Formula as formula
 use Rattle.formulas.specs.Formulas.{holds}
+use Rattle.formulas.specs.Limits.{valuation_limit}
 use Rattle.merge_model.specs.declared.answer.Shown.{Shown}
 use Rattle.merge_model.specs.declared.answer.Verdict.{Verdict}
 use Rattle.merge_model.specs.declared.answer.Verdict.TheVariants.{Yes, No}
@@ -31,7 +32,7 @@ use Rattle.merge_model.proofs.Nearest.{nearest_copies}
 
 -- what a distance and an aggregator keep
 pub record AreLaws (op : Operator) : Type 0 where
-  pub within : (v w : List Bool) → length v ≡ length w → 1 ≤ length v → length v ≤ 64 → op.dist v w ≤ op.most (length v)
+  pub within : (v w : List Bool) → length v ≡ length w → 1 ≤ length v → length v ≤ valuation_limit → op.dist v w ≤ op.most (length v)
   pub in_order : (top : ℕ) (u w : List ℕ) → All (λ k. k ≤ top) u → All (λ k. k ≤ top) w → length u ≡ length w →
       slice_cmp nat_cmp (op.levels_of u top) (op.levels_of w top) ≡ slice_cmp nat_cmp (op.rank u) (op.rank w)
 
@@ -79,7 +80,7 @@ module _ (op : Operator) (laws : AreLaws op) (p : Profile) (asks : List Formula)
   pub dist_within : (v w : List Bool) → length v ≡ p.atoms → length v ≡ length w → op.dist v w ≤ op.most p.atoms
   dist_within v w size same =
       let lo : 1 ≤ length v = omega (arith, lim.some_atom) in
-      let hi : length v ≤ 64 = omega (arith, lim.few_atoms) in
+      let hi : length v ≤ valuation_limit = omega (arith, lim.few_atoms) in
       subst (λ n. op.dist v w ≤ op.most n) size (laws.within v w same lo hi)
 
   pub values_fit : (v : List Bool) (ws : List (List Bool)) → IsCandidate p v ws → FitLevels (values_of v ws) main.levels
@@ -114,7 +115,7 @@ module _ (op : Operator) (laws : AreLaws op) (p : Profile) (asks : List Formula)
   pub full_within : (u : List Bool) → length u ≡ p.atoms → All (λ k. k ≤ op.most p.atoms) (full_of op.dist p u)
   full_within u size =
       let lo : 1 ≤ length u = omega (arith, lim.some_atom) in
-      let hi : length u ≤ 64 = omega (arith, lim.few_atoms) in
+      let hi : length u ≤ valuation_limit = omega (arith, lim.few_atoms) in
       repeated_small (op.most p.atoms) p.times (vector_of op.dist p.bases u)
       (All-map (λ k. k ≤ op.most p.atoms) (away op.dist u) p.bases (λ i f lt. away_within op.dist (op.most p.atoms) u _ (λ w same. subst (λ n. op.dist u w ≤ op.most n) size (laws.within u w same lo hi))))
 

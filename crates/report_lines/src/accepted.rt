@@ -1,4 +1,4 @@
-// Accepted parts of a report make its answer right.
+//! Accepted parts of a report make its answer right.
 ghost use Rattle.std.specs.Prelude.{◌⊎◌};
 ghost use Rattle.merge_model.specs.Answers.{dist_named, rank_named, IsRight, IsNamed};
 ghost use Rattle.report_lines.specs.Accepted.{Parts, AreAccepted, operator};

@@ -1,4 +1,4 @@
-// What is due after the lines so far, what is accepted, and why a line is refused.
+//! What is due after the lines so far, what is accepted, and why a line is refused.
 
 /// What is due next.
 #[derive(Clone, Copy, Debug, PartialEq, Eq)]

@@ -1,4 +1,4 @@
-// What follows from the definitions alone.
+//! What follows from the definitions alone.
 ghost use Rattle.report_lines.specs.ReportLaws.{ItemsLaw, NeverBothLaw, OneItemLaw, OnlyOnceLaw};
 
 /// At most one line that is due has given words.

@@ -1,4 +1,4 @@
-// Lines by themselves: whether a line has the words of an item, and what it says then.
+//! Lines by themselves: whether a line has the words of an item, and what it says then.
 ghost use Rattle.std.specs.Prelude.{◌≡◌, ◌≢◌, ◌↔◌, ◌+◌, ◌≤◌, ℕ, Bool, List, [], ◌∷◌, ◌++◌, IsTrue};
 ghost use Rattle.std.specs.Prelude.{IfSome, IfNone, false, codes, decimal};
 ghost use Rattle.report_words.specs.Numbers.{HasNumeral};
@@ -28,7 +28,7 @@ pub fn first_word_of(line: &[u8]) -> &[u8]
     line
 }
 
-// Takes the word, where it is next.
+/// Takes the word, where it is next.
 pub fn takes(words: &mut Words<'_>, word: &[u8]) -> bool
     ensures yes { IsTrue result → words.old ≡ word.now ∷ words.new }
     ensures no { result ≡ false → (rest : List (List ℕ)) → words.old ≢ word.now ∷ rest }
@@ -39,7 +39,7 @@ pub fn takes(words: &mut Words<'_>, word: &[u8]) -> bool
     }
 }
 
-// Takes a number, where one is next.
+/// Takes a number, where one is next.
 fn takes_number(words: &mut Words<'_>) -> Option<u64>
     ensures some { IfSome result (λ n. (words.old ≡ decimal n ∷ words.new) × HasNumeral n) }
     ensures none { IfNone result ((n : ℕ) (rest : List (List ℕ)) → HasNumeral n →
@@ -48,7 +48,7 @@ fn takes_number(words: &mut Words<'_>) -> Option<u64>
     number_of(words.next()?)
 }
 
-// Takes this number, where it is next.
+/// Takes this number, where it is next.
 fn takes_this(words: &mut Words<'_>, n: u64) -> bool
     ensures yes { IsTrue result → words.old ≡ decimal n ∷ words.new }
     ensures no { result ≡ false → (rest : List (List ℕ)) → words.old ≢ decimal n ∷ rest }
@@ -59,8 +59,8 @@ fn takes_this(words: &mut Words<'_>, n: u64) -> bool
     }
 }
 
-// Takes the number after this one, where it is next: what is numbered from 0 has its number from 1
-// in a line.
+/// Takes the number after this one, where it is next: what is numbered from 0 has its number from 1
+/// in a line.
 fn takes_next(words: &mut Words<'_>, n: usize) -> bool
     ensures yes { IsTrue result → words.old ≡ decimal (n + 1) ∷ words.new }
     ensures no { result ≡ false → (rest : List (List ℕ)) → words.old ≢ decimal (n + 1) ∷ rest }
@@ -96,7 +96,7 @@ pub fn is_gave_up_line(line: &[u8]) -> bool
     takes(&mut words, b"gave-up") && is_end(&mut words)
 }
 
-// The one word after this one, where the line has these two.
+/// The one word after this one, where the line has these two.
 pub fn second_word<'a>(line: &'a [u8], first: &[u8]) -> Option<&'a [u8]>
     ensures some { IfSome result (λ w. words_of line.now ≡ first.now ∷ w.now ∷ []) }
     ensures none { IfNone result ((w : List ℕ) → words_of line.now ≢ first.now ∷ w ∷ []) }
@@ -207,7 +207,7 @@ pub fn verdict_line(line: &[u8], query: usize) -> Option<bool>
     Some(given)
 }
 
-// Takes the words of a subject, where they are next.
+/// Takes the words of a subject, where they are next.
 pub fn takes_subject(words: &mut Words<'_>, subject: Subject) -> bool
     ensures yes { IsTrue result → words.old ≡ subject_words subject ++ words.new }
     ensures no { result ≡ false → (rest : List (List ℕ)) →
@@ -234,7 +234,7 @@ pub fn is_no_model_line(line: &[u8], subject: Subject) -> bool
     is_end(&mut words)
 }
 
-// Takes the words of a claim on a shown model, where they are next.
+/// Takes the words of a claim on a shown model, where they are next.
 fn takes_claim(words: &mut Words<'_>, model: u64, claim: &Claim) -> bool
     ensures yes { IsTrue result → words.old ≡ claim_words model (said claim.now) ++ words.new }
     ensures no { result ≡ false → (rest : List (List ℕ)) →

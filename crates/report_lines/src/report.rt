@@ -1,4 +1,4 @@
-// A report as data.
+//! A report as data.
 use derivation_log::Derivations;
 use merge_model::{AggregatorName, Answer, DistanceName, Problem, Sequence};
 

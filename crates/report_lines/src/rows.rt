@@ -1,4 +1,4 @@
-// Rows of numbers and valuations in lines.
+//! Rows of numbers and valuations in lines.
 ghost use Rattle.std.specs.Prelude.{◌≡◌, ◌≢◌, ◌≤◌, ℕ, Bool, List, [], ◌∷◌, ◌++◌, IfSome, IfNone};
 ghost use Rattle.std.specs.Prelude.{IfOk, MatchOption, None, Some, codes, decimal, map, length};
 ghost use Rattle.std.specs.List.{AllByRecursion};

@@ -14,7 +14,7 @@ use Rattle.report_text.specs.declared.front.FrontDue.{FrontDue}
 use Rattle.report_text.specs.declared.front.FrontDue.TheVariants as front
 use Rattle.report_text.specs.declared.stop.LineStop.{LineStop}
 use Rattle.report_text.specs.declared.stop.LineStop.TheVariants as stops
-use Rattle.report_text.specs.Front.{LeavesAnswers, IsAnswerDue, due_of, takes}
+use Rattle.report_text.specs.Front.{LeavesAnswers, due_of, takes}
 use Rattle.report_text.specs.Judging.{JudgedAs, IsJudged}
 
 pub at_due : {X : Type 0} (p : Position) (d : Due) (line : List ℕ) (stands : Position → Type 0) (r : Result X LineStop) → p.due ≡ d →
@@ -83,11 +83,6 @@ leaves front.Agents p line e none =
     leaves_at p line due.Agents e (λ x h. inr (inr h)) (λ x h w. answer_on p line x (other_word _ _ both.0) (other_word _ _ both.1) h w)
 leaves front.Asks p line e none = leaves_at p line due.Asks e (λ x h. inr h) (λ x h w. answer_of p line x (other_word _ _ none) h w)
 leaves place p line e none = absurd (cc)
-
-pub answer_due : (place : FrontDue) (line : List ℕ) → takes place line ≡ false → IsAnswerDue place
-answer_due front.Agents line none = tt
-answer_due front.Asks line none = tt
-answer_due place line none = absurd (cc)
 
 -- what is taken after an agent, and is no agent, is a query
 pub ask_taken : (place : FrontDue) (line : List ℕ) → place ≡ front.Agents → takes place line ≡ true → (first_word line ≡ codes "agent" → ⊥) → first_word line ≡ codes "ask"

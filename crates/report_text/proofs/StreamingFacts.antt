@@ -4,7 +4,7 @@ use Rattle.std.specs.Prelude.{IfOk, IfErr}
 use Rattle.std.specs.Io.KnownBytes.{Consumes, Keeps, IsAtEnd}
 use Rattle.std.proofs.KnownBytes.{Consumes-nil, Consumes-kept}
 use Rattle.std.proofs.lemmas.List.{append-nil}
-use Rattle.edge.specs.Streams.{Gave}
+use Rattle.edge.specs.Streams.{Gave, piece_limit}
 use Rattle.edge.proofs.Given.{Gave-more}
 use Rattle.report_lines.specs.declared.kinds.Kind.{Kind}
 use Rattle.report_lines.specs.Judged.{IsAccepted, IsFirstWrong}
@@ -31,7 +31,7 @@ streams_start left room progress h = record { text = []; gave = record { known =
 undecided : (text : List ℕ) (progress : Progress) → IsAt text progress → IsUndecided text
 undecided text progress h = record { rest = progress.held.items; place = h.place; number = progress.number; reads = h.reads; unended = h.unended; nothing_late = h.nothing_late }
 
-no_further : (text piece : List ℕ) (progress : Progress) → IsAt text progress → length piece ≤ 4096 → IsReadNoFurther (text ++ piece)
+no_further : (text piece : List ℕ) (progress : Progress) → IsAt text progress → length piece ≤ piece_limit → IsReadNoFurther (text ++ piece)
 no_further text piece progress h few = record { before = text; last = piece; whole = refl; few = few; undecided = undecided text progress h }
 
 no_more : (text : List ℕ) (progress : Progress) → IsAt text progress → IsReadNoFurther text
@@ -54,7 +54,7 @@ module _ (a b c : Option (List ℕ)) (r s t : ℕ) (progress : Progress) (h : St
     pub streams_more : (later : Progress) → IsAt (h.text ++ piece) later → Streams a c r t later
     streams_more later fed = record { text = h.text ++ piece; gave = more; reads = fed }
 
-    pub streams_stop : length piece ≤ 4096 → (stop : AcceptStop) → ((more : List ℕ) → IsStop ((h.text ++ piece) ++ more) stop) → IsJudgedFrom a c r t (Err (stop_from stop))
+    pub streams_stop : length piece ≤ piece_limit → (stop : AcceptStop) → ((more : List ℕ) → IsStop ((h.text ++ piece) ++ more) stop) → IsJudgedFrom a c r t (Err (stop_from stop))
     streams_stop few stop fed = record {
       text = h.text ++ piece;
       gave = more;

@@ -1,7 +1,7 @@
 -- What the judgement of a source says.
 use Rattle.std.specs.Prelude.{◌≡◌, ℕ, ◌≤◌, ◌⊎◌, List, [], ◌++◌, length, Option, Result, Ok, Err}
 use Rattle.std.specs.Io.KnownBytes.{IsAtEnd}
-use Rattle.edge.specs.Streams.{Gave}
+use Rattle.edge.specs.Streams.{Gave, piece_limit}
 use Rattle.report_lines.specs.Places.{Position}
 use Rattle.report_lines.specs.Judged.{IsFirstWrong, IsAccepted}
 use Rattle.report_lines.specs.declared.kinds.Due.TheVariants as due
@@ -22,10 +22,6 @@ pub record IsUndecided (text : List ℕ) : Type 0 where
   pub reads : Open text rest place number
   pub unended : HasNoFeed rest
   pub nothing_late : place.due ≡ due.Over → rest ≡ []
-
--- the most bytes of a read
-abbrev pub piece_limit : ℕ
-piece_limit = 4096
 
 -- no answer was due before the last read, which gave a piece at most
 pub record IsReadNoFurther (text : List ℕ) : Type 0 where

@@ -1,4 +1,4 @@
-// Whole reports, judged line by line.
+//! Whole reports, judged line by line.
 ghost use Rattle.std.specs.Prelude.{IfOk, IfErr};
 ghost use Rattle.report_lines.specs.Judged.{IsAccepted};
 ghost use Rattle.report_text.specs.Accepting.{IsStop, IsEnd, IsBorneOutText};
@@ -26,7 +26,7 @@ pub enum AcceptStop {
     NoMemory,
 }
 
-// Takes the text as one piece.
+/// Takes the text as one piece.
 fn judge(alloc: Global, bytes: &[u8]) -> Result<Kind, AcceptStop>
     ensures { IsEnd bytes.now result }
 {

@@ -1,4 +1,4 @@
-// The lines of an answer, one after another.
+//! The lines of an answer, one after another.
 ghost use Rattle.std.specs.Prelude.{◌≡◌, ◌≢◌, ◌⊎◌, ◌↔◌, IsTrue, IfOk, OnOk, OnErr};
 ghost use Rattle.report_lines.specs.Following.{due_after_verdicts};
 ghost use Rattle.report_lines.specs.Places.{Position as Place, start};

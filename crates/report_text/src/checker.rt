@@ -1,4 +1,4 @@
-// A checker of reports, line by line.
+//! A checker of reports, line by line.
 ghost use Rattle.std.specs.Prelude.{◌≡◌, ◌≢◌, ◌↔◌, IsTrue};
 ghost use Rattle.report_lines.specs.Places.{Position, start};
 ghost use Rattle.report_text.specs.Front.{StandsAtFront, IsAnswerDue, LeavesAnswers};
@@ -25,7 +25,7 @@ pub enum Checker {
     Log(Logging),
 }
 
-// The first line of an answer.
+/// The first line of an answer.
 fn first_answer(alloc: Global, front: Front, line: &[u8]) -> Result<Checker, LineStop>
     requires due { IsAnswerDue front.due }
     requires only { (p : Position) → StandsAtFront front p → LeavesAnswers p line.now }
@@ -39,7 +39,7 @@ fn first_answer(alloc: Global, front: Front, line: &[u8]) -> Result<Checker, Lin
     }
 }
 
-// A line of the front or the first of an answer.
+/// A line of the front or the first of an answer.
 fn front_line(alloc: Global, mut front: Front, line: &[u8]) -> Result<Checker, LineStop>
     ensures { (p : Position) → StandsAtFront front p → IsNext p line.now result }
 {
@@ -52,7 +52,7 @@ fn front_line(alloc: Global, mut front: Front, line: &[u8]) -> Result<Checker, L
     }
 }
 
-// The main line.
+/// The main line.
 fn first_log(alloc: Global, answer: Answering, line: &[u8]) -> Result<Checker, LineStop>
     requires done { answer.due ≡ Due.Main }
     requires fit { IsFitAnswer answer }
@@ -65,7 +65,7 @@ fn first_log(alloc: Global, answer: Answering, line: &[u8]) -> Result<Checker, L
     }
 }
 
-// A line of the answer or the main line.
+/// A line of the answer or the main line.
 fn answer_line(alloc: Global, mut answer: Answering, line: &[u8]) -> Result<Checker, LineStop>
     requires { IsFitAnswer answer }
     ensures { (p : Position) → StandsInAnswer answer p → IsNext p line.now result }
@@ -79,7 +79,7 @@ fn answer_line(alloc: Global, mut answer: Answering, line: &[u8]) -> Result<Chec
     }
 }
 
-// A line from the main line on.
+/// A line from the main line on.
 fn log_line(mut log: Logging, line: &[u8]) -> Result<Checker, LineStop>
     requires due { log.due ≢ LogDue.Over }
     requires fit { IsFitLog log }

@@ -1,4 +1,4 @@
-// The lines of a report before the answer: the head, and the problem.
+//! The lines of a report before the answer: the head, and the problem.
 ghost use Rattle.std.specs.Prelude.{◌≡◌, true, false};
 ghost use Rattle.report_lines.specs.declared.kinds.Due.TheVariants as due;
 ghost use Rattle.report_lines.specs.Places.{Position, DueAt, IsProblemLine, start};
@@ -164,7 +164,7 @@ impl Front {
         Ok(())
     }
 
-    // Judges a line where lines of the problem with this first word are due.
+    /// Judges a line where lines of the problem with this first word are due.
     fn problem_line(&mut self, line: &[u8], word: &[u8], next: FrontDue) -> Result<(), LineStop>
         requires word { word.now ≡ word_before next }
         requires place { Precedes self.old.due next }

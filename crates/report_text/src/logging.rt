@@ -1,4 +1,4 @@
-// The log of a report, its proofs and its end, line by line.
+//! The log of a report, its proofs and its end, line by line.
 ghost use Rattle.std.specs.Prelude.{◌≡◌, ◌≢◌, ◌↔◌, ◌+◌, ◌<◌, ◌≤◌, ◌==◌, ◌&&◌, IfOk, IsTrue};
 ghost use Rattle.std.specs.Prelude.{MatchOption, length, take, drop};
 ghost use Rattle.log_lines.specs.Spending.{noted_of, is_spent};
@@ -41,14 +41,14 @@ pub struct Logging {
     due: LogDue,
     conflicts: u64,
     kind: Kind,
-    // the main clauses, so many, and then the steps' clauses
+    /// The main clauses, so many, and then the steps' clauses.
     known: ClauseList,
     main: u64,
-    // the kind of each step
+    /// The kind of each step.
     kinds: Vec<StepKind>,
     frame: Frame,
     claims: Vec<Claimed>,
-    // how many claims are shown
+    /// How many claims are shown.
     next: usize,
 }
 
@@ -62,7 +62,7 @@ fn number_of_end(kind: Kind) -> u64
     }
 }
 
-// Whether the number is that of a step whose clause refutes what the claim assumes.
+/// Whether the number is that of a step whose clause refutes what the claim assumes.
 fn shows(
     alloc: Global,
     known: &ClauseList,
@@ -86,7 +86,7 @@ fn shows(
     Ok(refutes(known.clause(number), &lits))
 }
 
-// Whether the log spent its conflicts.
+/// Whether the log spent its conflicts.
 fn has_spent(
     alloc: Global,
     known: &ClauseList,
@@ -152,7 +152,7 @@ impl Logging {
         }
     }
 
-    // Whether these are the numbers of variables and of clauses.
+    /// Whether these are the numbers of variables and of clauses.
     fn is_main(&self, vars: u64, clauses: u64) -> bool
         ensures { result ≡ ((vars == self.now.known.vars) && (clauses == self.now.main)) }
     {
@@ -199,7 +199,7 @@ impl Logging {
         Ok(())
     }
 
-    // Whether the end may come.
+    /// Whether the end may come.
     fn may_end(&self) -> Result<bool, NoMemory>
         requires { IsFitLog self.now }
         ensures { IfOk result

@@ -1,4 +1,4 @@
-// The parts of an accepted text.
+//! The parts of an accepted text.
 ghost use Rattle.report_text.specs.PartsLaws.{OnePartsLaw, PartsLaw};
 
 use merge_model::{AggregatorName, DistanceName};

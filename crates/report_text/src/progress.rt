@@ -1,4 +1,4 @@
-// How far a report has been judged that comes in pieces.
+//! How far a report has been judged that comes in pieces.
 ghost use Rattle.std.specs.Prelude.{◌≡◌, ℕ, List, [], ◌∷◌, ◌++◌, MatchOption};
 ghost use Rattle.report_lines.specs.Places.{Position};
 ghost use Rattle.report_text.specs.Checker.{Stands, IsFit, IsOver, IsAfter};
@@ -23,8 +23,8 @@ pub struct Progress {
     pub number: u64,
 }
 
-// The first line of a text, and what stands after its line feed; `None` where there is no line
-// feed.
+/// The first line of a text, and what stands after its line feed; `None` where there is no line
+/// feed.
 fn first_line(text: &[u8]) -> Option<(&[u8], &[u8])>
     ensures { MatchOption result (HasNoFeed text.now)
         (λ x. (text.now ≡ x.0.now ++ 10 ∷ x.1.now) × HasNoFeed x.0.now) }
@@ -46,7 +46,7 @@ fn stopped(line: u64, stop: LineStop) -> AcceptStop
     }
 }
 
-// Judges a line and stands after it.
+/// Judges a line and stands after it.
 fn advance(checker: &mut Checker, alloc: Global, line: &[u8]) -> Result<(), LineStop>
     requires over { IsOver checker.old → ⊥ }
     requires fit { IsFit checker.old }
@@ -68,7 +68,7 @@ impl Progress {
         }
     }
 
-    // Judges the line that begins with what is held and ends with these bytes.
+    /// Judges the line that begins with what is held and ends with these bytes.
     fn line(&mut self, alloc: Global, line: &[u8]) -> Result<(), AcceptStop>
         requires { IsFit self.old.checker }
         ensures { (text next : List ℕ) → StandsBefore text (line.now ++ 10 ∷ next) self.old →
@@ -91,7 +91,7 @@ impl Progress {
         Ok(())
     }
 
-    // Holds the last bytes of a piece, which no line feed follows yet. After an end none may come.
+    /// Holds the last bytes of a piece, which no line feed follows yet. After an end none may come.
     fn hold(&mut self, rest: &[u8]) -> Result<(), AcceptStop>
         ensures { (text : List ℕ) → StandsBefore text rest.now self.old → HasNoFeed rest.now →
             IsFed text self.new result }

@@ -1,4 +1,4 @@
-// Reports that come from a source, judged line by line while they come.
+//! Reports that come from a source, judged line by line while they come.
 ghost use Rattle.std.specs.Prelude.{◌≡◌, ◌≢◌, ◌≤◌, ℕ, List, [], Some, IfOk, IfErr, IsErrOf};
 ghost use Rattle.edge.specs.Faults.{Rose};
 ghost use Rattle.report_lines.specs.Judged.{IsAccepted};
@@ -8,12 +8,9 @@ ghost use Rattle.report_text.specs.Streaming.{IsJudgedFrom, IsStopFrom, stop_fro
 use crate::accepting::{AcceptStop, Refused};
 use crate::parts::accepted_has_parts;
 use crate::progress::Progress;
-use edge::Source;
+use edge::{PIECE_LIMIT, Source};
 use report_lines::Kind;
 use std::alloc::Global;
-
-/// How many bytes one read asks for.
-const PIECE: usize = 4096;
 
 /// Why what a source gives is not accepted.
 #[derive(Clone, Copy, Debug, PartialEq, Eq)]
@@ -37,7 +34,7 @@ impl From<AcceptStop> for AcceptFromStop {
     }
 }
 
-// Reads a piece, judges it, and so on, from the first on.
+/// Reads a piece, judges it, and so on, from the first on.
 fn judge_from<S: Source>(
     alloc: Global,
     source: &mut S,
@@ -53,7 +50,7 @@ fn judge_from<S: Source>(
         S.faults source.new ≡ S.faults source.old }
 {
     accepted_has_parts();
-    let mut piece = [0u8; PIECE];
+    let mut piece = [0u8; PIECE_LIMIT];
     loop {
         let Ok(count) = source.read(&mut piece) else {
             return Err(AcceptFromStop::Failed);

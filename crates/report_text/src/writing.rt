@@ -1,5 +1,5 @@
-// The text of a report. Each writer appends its text at once; on `NoMemory` what was appended is a
-// part of the text from its start.
+//! The text of a report. Each writer appends its text at once; on `NoMemory` what was appended is a
+//! part of the text from its start.
 ghost use Rattle.std.specs.Prelude.{◌≡◌, ◌∷◌, [], length, map, decimal};
 ghost use Rattle.std.specs.List.{flat_map};
 ghost use Rattle.report_words.specs.Words.{later_text};
@@ -40,7 +40,7 @@ pub fn write_report(report: &Report, into: &mut Vec<u8>) -> Result<(), NoMemory>
     write_log(report, into)
 }
 
-// The log, the proofs and the end.
+/// The log, the proofs and the end.
 fn write_log(report: &Report, into: &mut Vec<u8>) -> Result<(), NoMemory>
     requires whole { IsReport report.now }
     requires lines { HaveLines (length report.now.derivations.main) report.now.derivations.steps }
@@ -53,7 +53,7 @@ fn write_log(report: &Report, into: &mut Vec<u8>) -> Result<(), NoMemory>
     write_end(end_number(&report.answer), into)
 }
 
-// How many variables and main clauses there are.
+/// How many variables and main clauses there are.
 fn write_main(derivations: &Derivations, into: &mut Vec<u8>) -> Result<(), NoMemory>
     ensures { Writes result into.old.items into.new.items
         (items_text (MainLine derivations.now.vars (length derivations.now.main) ∷ [])) }
@@ -98,7 +98,7 @@ fn write_proof(proof: Proof, into: &mut Vec<u8>) -> Result<(), NoMemory>
     write_bytes(b"\n", into)
 }
 
-// What is numbered from 0 has its number from 1 in a line.
+/// What is numbered from 0 has its number from 1 in a line.
 fn write_proof_words(proof: Proof, into: &mut Vec<u8>) -> Result<(), NoMemory>
     ensures { Writes result into.old.items into.new.items (later_text (proof_words proof)) }
 {
@@ -119,7 +119,7 @@ fn write_proof_words(proof: Proof, into: &mut Vec<u8>) -> Result<(), NoMemory>
     }
 }
 
-// A word and numbers, each behind a blank.
+/// A word and numbers, each behind a blank.
 fn write_claim(word: &[u8], numbers: &[u128], into: &mut Vec<u8>) -> Result<(), NoMemory>
     ensures { Writes result into.old.items into.new.items
         (later_text (word.now ∷ map decimal numbers.now)) }
@@ -131,7 +131,7 @@ fn write_claim(word: &[u8], numbers: &[u128], into: &mut Vec<u8>) -> Result<(), 
     Ok(())
 }
 
-// What a report with this answer ends with.
+/// What a report with this answer ends with.
 fn end_number(answer: &Answer) -> u64
     ensures { result ≡ number_of_end (kind_of_answer answer.now) }
 {

@@ -1,4 +1,4 @@
-// What is written of accepted parts.
+//! What is written of accepted parts.
 ghost use Rattle.report_text.specs.WrittenLaws.{WrittenLaw, WrittenSpentLaw};
 
 /// A report that is written of accepted parts is accepted, and one of a log that is spent is

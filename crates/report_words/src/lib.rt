@@ -1,5 +1,5 @@
-// The words of a line with one blank between each two, and the numbers and literals that words
-// spell.
+//! The words of a line with one blank between each two, and the numbers and literals that words
+//! spell.
 #![tactic(auto)]
 
 mod numbers;

@@ -1,4 +1,4 @@
-// Numbers of 1 to 19 digits, and literals.
+//! Numbers of 1 to 19 digits, and literals.
 ghost use Rattle.std.specs.Prelude.{◌≡◌, ◌≢◌, ℕ, IfSome, IfNone, decimal};
 ghost use Rattle.report_words.specs.Numbers.{digits_from, number_at, literal_at, literal_word};
 ghost use Rattle.report_words.specs.Numbers.{IsLiteral, HasNumeral, signed};
@@ -14,7 +14,7 @@ pub struct WideLit {
     pub positive: bool,
 }
 
-// The number that digits spell, at most 19 of them.
+/// The number that digits spell, at most 19 of them.
 fn digits_of(word: &[u8]) -> Option<u64>
     ensures { result ≡ digits_from 0 word.now }
 {

@@ -1,4 +1,4 @@
-// The words of a line.
+//! The words of a line.
 ghost use Rattle.std.specs.Prelude.{◌≡◌, List, ℕ, [], ◌∷◌, MatchOption};
 ghost use Rattle.report_words.specs.Words.{words_of};
 

@@ -1,5 +1,5 @@
-// Writers: each appends its text at once. Where memory is refused, a part of the text from its
-// start stays.
+//! Writers: each appends its text at once. Where memory is refused, a part of the text from its
+//! start stays.
 ghost use Rattle.std.specs.Prelude.{◌≡◌, ◌∷◌, ◌++◌, map, codes, decimal, OnErr};
 ghost use Rattle.report_words.specs.Numbers.{literal_word};
 ghost use Rattle.report_words.specs.Words.{later_text, line_of};

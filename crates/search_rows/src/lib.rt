@@ -1,5 +1,5 @@
-// Worked merges of small problems and searches about them, with each expected value worked out by
-// hand. There is nothing here but tests.
+//! Worked merges of small problems and searches about them, with each expected value worked out by
+//! hand. There is nothing here but tests.
 #![tactic(auto)]
 
 #[cfg(test)]

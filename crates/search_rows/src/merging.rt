@@ -1,4 +1,4 @@
-// Worked merges by way of all valuations.
+//! Worked merges by way of all valuations.
 use merge_model::{
     AggregatorName, Answer, DistanceName, ENUMERATION_LIMIT, Problem, Verdict, merge_named,
 };
@@ -18,7 +18,7 @@ fn is_yes(answer: &Answer) -> Option<bool> {
 }
 
 fn entailed(alloc: Global, aggregator: AggregatorName, problem: &Problem) -> Option<bool> {
-    if problem.atoms.len() as usize > ENUMERATION_LIMIT {
+    if problem.atoms.len() > ENUMERATION_LIMIT {
         return None;
     }
     let answer = merge_named(alloc, DistanceName::Hamming, aggregator, problem).ok()?;

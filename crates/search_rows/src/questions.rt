@@ -1,5 +1,5 @@
-// One question to a search about the problem that a text spells, by any distance and any
-// aggregator, with more steps than any of them learns. Each answers `None` where the search stops.
+//! One question to a search about the problem that a text spells, by any distance and any
+//! aggregator, with more steps than any of them learns. Each answers `None` where the search stops.
 ghost use Rattle.std.specs.Prelude.{◌≡◌, ◌<◌, ◌≤◌, IsTrue, IfSome};
 ghost use Rattle.distance_search.specs.Results.{IsConsistent, IsBestFor};
 

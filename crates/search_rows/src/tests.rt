@@ -1,4 +1,4 @@
-// What searches about small problems answer where memory is ample.
+//! What searches about small problems answer where memory is ample.
 use crate::questions::{
     best_about, closest_about, consistency_about, distances_about, is_yes_about,
     stop_after_one_step,

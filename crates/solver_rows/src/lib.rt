@@ -1,5 +1,5 @@
-// Worked steps, questions to the solver and trims of logs, with each step judged by the step
-// checker. There is nothing here but tests.
+//! Worked steps, questions to the solver and trims of logs, with each step judged by the step
+//! checker. There is nothing here but tests.
 #![tactic(auto)]
 
 #[cfg(test)]

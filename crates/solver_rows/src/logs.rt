@@ -1,4 +1,4 @@
-// Logs over fourteen main clauses, made from step lines.
+//! Logs over fourteen main clauses, made from step lines.
 ghost use Rattle.std.specs.Prelude.{◌≡◌, ◌<◌, ◌≤◌, ◌&&◌, nat_le, OnOk, IfOk, IsTrue, length};
 ghost use Rattle.std.specs.List.{list_all};
 ghost use Rattle.clause_store.specs.Lits.{InRange};

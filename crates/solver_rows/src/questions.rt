@@ -1,5 +1,5 @@
-// Worked questions to the solver over any propagator, with each step of its logs judged. A function
-// that holds a solver asks another about it, and ends at one place.
+//! Worked questions to the solver over any propagator, with each step of its logs judged. A
+//! function that holds a solver asks another about it, and ends at one place.
 ghost use Rattle.std.specs.Prelude.{◌≡◌, ◌≢◌, ◌+◌, ◌≤◌, AllPairs, OnOk, IfOk};
 ghost use Rattle.clause_store.specs.Lits.{InRange};
 ghost use Rattle.clause_store.specs.Limits.{var_limit};

@@ -1,4 +1,4 @@
-// Steps that are read, written and judged.
+//! Steps that are read, written and judged.
 use crate::questions::fourteen_clauses;
 use clause_store::{Clause, ClauseList, Lit};
 use derivation_log::{Chain, Link, Step, StepKind, StepReadStop, read_step, write_step};

@@ -1,5 +1,5 @@
-// What the solver answers to worked questions by scanning and by watched literals, and that each
-// step of its logs follows.
+//! What the solver answers to worked questions by scanning and by watched literals, and that each
+//! step of its logs follows.
 use crate::questions::{
     claimed_of_the_empty_clause, found_under_third, refuting_assumptions, spent_on_all_of_two,
 };

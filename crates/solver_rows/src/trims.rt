@@ -1,4 +1,4 @@
-// What trimming leaves of worked logs.
+//! What trimming leaves of worked logs.
 use crate::logs::{has_step, trimmed, trimmed_twice};
 use derivation_log::{StepReadStop, TrimmedLog};
 use std::alloc::Global;

@@ -1,5 +1,5 @@
-// Worked reads and writes of sources and sinks, with the faults in their midst. There is nothing
-// here but tests.
+//! Worked reads and writes of sources and sinks, with the faults in their midst. There is nothing
+//! here but tests.
 #![tactic(auto)]
 
 #[cfg(test)]

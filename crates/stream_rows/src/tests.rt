@@ -1,4 +1,4 @@
-// What sources give and sinks take.
+//! What sources give and sinks take.
 ghost use Rattle.std.specs.Prelude.{◌<◌};
 
 use edge::{

@@ -1,4 +1,4 @@
-// Worked texts of formulas and reports. There is nothing here but tests.
+//! Worked texts of formulas and reports. There is nothing here but tests.
 #![tactic(auto)]
 
 #[cfg(test)]

@@ -1,4 +1,4 @@
-// What texts in memory are read and accepted as where memory is ample.
+//! What texts in memory are read and accepted as where memory is ample.
 use formula_grammar::{FormulaStop, read_formula};
 use formula_text::write_formula;
 use formulas::Atoms;

@@ -1,4 +1,4 @@
-// Either of several variables, as a fresh one.
+//! Either of several variables, as a fresh one.
 
 ghost use Rattle.std.specs.Prelude.{◌≡◌, ◌<◌, ◌≤◌, ◌++◌, IfOk, OnOk, OnErr, length, map};
 ghost use Rattle.clause_store.specs.Lits.{sorted_clause};

@@ -1,4 +1,4 @@
-// What the blocks of clauses share.
+//! What the blocks of clauses share.
 
 ghost use Rattle.std.specs.Prelude.{◌≡◌, [], ◌∷◌, ◌++◌, OnOk, OnErr};
 ghost use Rattle.clause_store.specs.Lits.{sorted_clause, InRange};

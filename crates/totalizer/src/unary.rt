@@ -1,4 +1,4 @@
-// A counter as a list of variables.
+//! A counter as a list of variables.
 
 ghost use Rattle.std.specs.Prelude.{◌≡◌, ℕ, ◌-◌, ◌≤◌, Bool, [], ◌∷◌, IfOk, length, All};
 ghost use Rattle.std.specs.Prelude.{slice_index, if◌then◌else◌};

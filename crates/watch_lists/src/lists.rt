@@ -1,5 +1,6 @@
-// Lists of watches, one for each literal. A watch goes by its slot, two a clause side by side; what
-// a visit reads of it stands at its seat, and the watches of one list can have seats side by side.
+//! Lists of watches, one for each literal. A watch goes by its slot, two a clause side by side;
+//! what a visit reads of it stands at its seat, and the watches of one list can have seats side by
+//! side.
 ghost use Rattle.std.specs.Prelude.{◌≡◌, ℕ, ◌*◌, ◌+◌, ◌<◌, ◌≤◌, List, ◌∷◌, length, true};
 ghost use Rattle.std.specs.Prelude.{false, slice_index_or, slice_set, Contains, All};
 ghost use Rattle.std.specs.Prelude.{IfOk, OnOk, OnErr};
@@ -15,27 +16,27 @@ use edge::NoMemory;
 use std::alloc::Global;
 use std::marker::Model;
 
-// What ends a list; `list_end` of the specs.
+/// What ends a list; `list_end` of the specs.
 pub const END: u32 = u32::MAX;
 
-// What a visit reads of a watch.
+/// What a visit reads of a watch.
 #[derive(Clone, Copy, Debug, Default)]
 pub struct Watch {
-    // the seat of the next watch of the list
+    /// The seat of the next watch of the list.
     pub next: u32,
-    // the other watched literal of the clause, as `pack` gives it
+    /// The other watched literal of the clause, as `pack` gives it.
     pub other: u32,
 }
 
 #[derive(Drop)]
 pub struct Lists {
-    // by rank of a literal: the seat of the first watch of its list
+    /// By rank of a literal: the seat of the first watch of its list.
     heads: Vec<u32>,
-    // by seat
+    /// By seat.
     row: Vec<Watch>,
-    // by slot: its seat
+    /// By slot: its seat.
     seats: Vec<u32>,
-    // by seat: its slot
+    /// By seat: its slot.
     slots: Vec<u32>,
 }
 
@@ -55,7 +56,7 @@ impl Model for Lists {
 }
 
 impl Lists {
-    // No watches, and room for the literals of so many variables.
+    /// No watches, and room for the literals of so many variables.
     pub fn new(alloc: Global, count: u32) -> Result<Lists, NoMemory>
         ensures { IfOk result (IsBlank count) }
     {
@@ -68,7 +69,7 @@ impl Lists {
         })
     }
 
-    // Takes in the two watches of one more clause.
+    /// Takes in the two watches of one more clause.
     pub fn grow(&mut self) -> Result<(), NoMemory>
         requires few { length self.old.next + 2 < list_end }
         ensures ok { OnOk result (IsGrown self.old self.new) }
@@ -91,7 +92,7 @@ impl Lists {
         Ok(())
     }
 
-    // How many watches there are.
+    /// How many watches there are.
     pub fn len(&self) -> usize
         ensures len { result ≡ length self.now.next }
         ensures few { result < list_end }
@@ -99,7 +100,7 @@ impl Lists {
         self.seats.len()
     }
 
-    // Whether a list ends here.
+    /// Whether a list ends here.
     #[inline]
     pub fn is_end(&self, seat: u32) -> bool
         ensures end { result ≡ true → slot_at self.now.slots seat ≡ list_end }
@@ -109,7 +110,7 @@ impl Lists {
         seat as usize >= self.slots.len()
     }
 
-    // The seat of a watch.
+    /// The seat of a watch.
     #[inline]
     pub fn seat(&self, slot: usize) -> u32
         requires { slot < length self.now.next }
@@ -119,7 +120,7 @@ impl Lists {
         self.seats[slot]
     }
 
-    // The place of the clause that is watched from a seat.
+    /// The place of the clause that is watched from a seat.
     #[inline]
     pub fn place(&self, seat: u32) -> usize
         requires { seat < length self.now.next }
@@ -128,7 +129,7 @@ impl Lists {
         self.slots[seat as usize] as usize / 2
     }
 
-    // The other watched literal of the clause that is watched from a seat.
+    /// The other watched literal of the clause that is watched from a seat.
     #[inline]
     pub fn other(&self, seat: u32) -> Lit
         requires { seat < length self.now.next }
@@ -137,7 +138,7 @@ impl Lists {
         unpack(self.row[seat as usize].other)
     }
 
-    // The seat of the next watch of the list.
+    /// The seat of the next watch of the list.
     #[inline]
     pub fn after(&self, seat: u32) -> u32
         requires { seat < length self.now.next }
@@ -147,7 +148,7 @@ impl Lists {
         self.row[seat as usize].next
     }
 
-    // Detaches a list, and answers the seat of its first watch.
+    /// Detaches a list, and answers the seat of its first watch.
     #[inline]
     pub fn take(&mut self, at: usize) -> u32
         requires { at < length self.old.heads }
@@ -160,7 +161,7 @@ impl Lists {
         seat
     }
 
-    // Puts a watch that is in no list in front of one.
+    /// Puts a watch that is in no list in front of one.
     #[inline]
     pub fn push(&mut self, at: usize, seat: u32)
         requires at { at < length self.old.heads }
@@ -179,7 +180,7 @@ impl Lists {
         self.heads[at] = seat;
     }
 
-    // Gives a watch another literal.
+    /// Gives a watch another literal.
     pub fn change(&mut self, seat: u32, lit: Lit)
         requires seat { seat < length self.old.next }
         requires named { 1 ≤ lit.var }
@@ -197,7 +198,7 @@ impl Lists {
         self.row[mate_seat as usize].other = pack(lit);
     }
 
-    // Empties all lists.
+    /// Empties all lists.
     pub fn clear(&mut self)
         ensures none { AreNone self.new.heads }
         ensures next { self.new.next ≡ self.old.next }
@@ -207,7 +208,7 @@ impl Lists {
         empty(&mut self.heads, END);
     }
 
-    // Empties all lists, and gives the watches that will stand in one list seats side by side.
+    /// Empties all lists, and gives the watches that will stand in one list seats side by side.
     pub fn arrange(&mut self, numbers: &[u64], known: &ClauseList)
         requires heads { length self.old.heads ≡ 2 * known.now.vars + 2 }
         requires all { length self.old.next ≡ 2 * length numbers.now }

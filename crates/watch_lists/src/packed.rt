@@ -1,11 +1,11 @@
-// Literals in 32 bits.
+//! Literals in 32 bits.
 ghost use Rattle.std.specs.Prelude.{◌≡◌, ◌≤◌};
 ghost use Rattle.clause_store.specs.Limits.{var_limit};
 ghost use Rattle.watch_lists.specs.Watches.{lit_of};
 
 use clause_store::Lit;
 
-// The number that stands for a literal.
+/// The number that stands for a literal.
 pub fn pack(lit: Lit) -> u32
     requires named { 1 ≤ lit.var }
     requires few { lit.var ≤ var_limit }
@@ -18,7 +18,7 @@ pub fn pack(lit: Lit) -> u32
     }
 }
 
-// The literal that a number stands for.
+/// The literal that a number stands for.
 #[inline]
 pub fn unpack(bits: u32) -> Lit
     ensures { result ≡ lit_of bits }

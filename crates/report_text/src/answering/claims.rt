@@ -1,4 +1,4 @@
-// The claims that are due for an answer.
+//! The claims that are due for an answer.
 ghost use Rattle.std.specs.Prelude.{◌≡◌, [], ◌∷◌, ◌++◌, IfOk, OnOk, OnErr, map};
 ghost use Rattle.report_lines.specs.ClaimsDue.{far_claims, least_claims, of_first};
 ghost use Rattle.merge_encoding.specs.Claims.{NoBetter};

@@ -1,4 +1,4 @@
-// Main clauses by the names of a distance and of an aggregator.
+//! Main clauses by the names of a distance and of an aggregator.
 ghost use Rattle.std.specs.Prelude.{◌≡◌, IfOk, length, map};
 ghost use Rattle.clause_store.specs.Lits.{sorted_clause};
 ghost use Rattle.merge_encoding.specs.Frames.{frame_of, IsFrameOver};

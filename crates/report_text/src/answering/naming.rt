@@ -1,4 +1,4 @@
-// The lines that name formulas without a model, and the first line of an answer.
+//! The lines that name formulas without a model, and the first line of an answer.
 ghost use Rattle.std.specs.Prelude.{◌≡◌, ◌≢◌, ◌≤◌, ◌⊎◌, ℕ, List, ◌∷◌, false, length, IsTrue};
 ghost use Rattle.std.specs.Prelude.{OnOk, OnErr};
 ghost use Rattle.formulas.specs.Formulas.{width_of};

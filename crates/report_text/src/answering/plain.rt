@@ -1,4 +1,4 @@
-// What plain evaluation says of an answer's lines.
+//! What plain evaluation says of an answer's lines.
 ghost use Rattle.std.specs.Prelude.{◌≡◌, ◌≤◌, ◌==◌, ◌&&◌, length, map, All, IfOk, MatchOption};
 ghost use Rattle.std.specs.Prelude.{nat_le, false, true};
 ghost use Rattle.std.specs.List.{list_all};

@@ -1,4 +1,4 @@
-// The lines of a shown model: the model, its vector, the nearest models and the measure.
+//! The lines of a shown model: the model, its vector, the nearest models and the measure.
 ghost use Rattle.std.specs.Prelude.{◌≡◌, ◌≤◌, ◌⊎◌, true, length, map, All, IfOk, OnOk, OnErr};
 ghost use Rattle.std.specs.Prelude.{if◌then◌else◌, ◌==◌, nat_le};
 ghost use Rattle.std.specs.List.{list_all};

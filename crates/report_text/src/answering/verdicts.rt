@@ -1,4 +1,4 @@
-// The lines of verdicts.
+//! The lines of verdicts.
 ghost use Rattle.std.specs.Prelude.{◌≡◌, true, IfOk, OnOk, OnErr};
 ghost use Rattle.merge_encoding.specs.Claims.{NoBreaker};
 ghost use Rattle.report_lines.specs.ClaimsDue.{of_first};

@@ -1,4 +1,4 @@
-// The lines of a problem, with a count of them.
+//! The lines of a problem, with a count of them.
 ghost use Rattle.std.specs.Prelude.{◌≡◌, ◌≢◌, ◌↔◌, [], ◌∷◌, ◌++◌, IsTrue, IfOk, MatchResult};
 ghost use Rattle.problem_reading.specs.Drafts.{Draft};
 ghost use Rattle.problem_reading.specs.Lines.{IsCanonicalNext};
@@ -10,7 +10,7 @@ use problem_reading::{Reading, TextStop};
 use std::alloc::Global;
 use std::marker::Model;
 
-// How many lines are read at most. No problem has so many that are canonical.
+/// How many lines are read at most. No problem has so many that are canonical.
 const LINE_LIMIT: u64 = 1 << 32;
 
 /// The lines of a problem that were read so far, seen as their list.

@@ -1,4 +1,4 @@
-// The lines of a report that stand before its log: what was asked, the problem, and the answer.
+//! The lines of a report that stand before its log: what was asked, the problem, and the answer.
 ghost use Rattle.std.specs.Prelude.{◌∷◌, [], ◌++◌, map, codes, decimal};
 ghost use Rattle.formula_text.specs.ValuationWords.{valuation_word};
 ghost use Rattle.report_words.specs.Words.{line_of, later_text};
@@ -36,7 +36,7 @@ pub fn write_answer(
     write_answer_lines(answer, into)
 }
 
-// What was asked.
+/// What was asked.
 fn write_head(
     distance: DistanceName,
     aggregator: AggregatorName,
@@ -56,7 +56,7 @@ fn write_head(
     )
 }
 
-// What merging came to.
+/// What merging came to.
 fn write_answer_lines(answer: &Answer, into: &mut Vec<u8>) -> Result<(), NoMemory>
     ensures { Writes result into.old.items into.new.items (items_text (answer_items answer.now)) }
 {
@@ -108,7 +108,7 @@ fn write_shown(shown: &Shown, into: &mut Vec<u8>) -> Result<(), NoMemory>
     write_valuations_line(b"nearest", shown.nearest.as_slice(), into)
 }
 
-// The verdict on a query, which is numbered from 0 here and from 1 in the line.
+/// The verdict on a query, which is numbered from 0 here and from 1 in the line.
 fn write_verdict(query: usize, verdict: &Verdict, into: &mut Vec<u8>) -> Result<(), NoMemory>
     ensures { Writes result into.old.items into.new.items
         (items_text (verdict_entry query verdict.now)) }
@@ -134,7 +134,7 @@ fn write_verdicts(verdicts: &[Verdict], into: &mut Vec<u8>) -> Result<(), NoMemo
     Ok(())
 }
 
-// The words of what has a model or none, each behind a blank.
+/// The words of what has a model or none, each behind a blank.
 fn write_subject(subject: Subject, into: &mut Vec<u8>) -> Result<(), NoMemory>
     ensures { Writes result into.old.items into.new.items (later_text (subject_words subject)) }
 {
@@ -148,7 +148,7 @@ fn write_subject(subject: Subject, into: &mut Vec<u8>) -> Result<(), NoMemory>
     }
 }
 
-// The model of a formula, or that it has none.
+/// The model of a formula, or that it has none.
 fn write_named(
     subject: Subject,
     model: Option<Valuation>,

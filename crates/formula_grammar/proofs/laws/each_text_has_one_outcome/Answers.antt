@@ -42,13 +42,13 @@ one_stop atoms text TooDeep UnknownAtom h i x y = let both : true ≡ false = sy
 one_stop atoms text TooDeep TooDeep h i x y = refl
 
 pub returns-clause-has_outcome : goal.returns-clause-has_outcome
-returns-clause-has_outcome c = text_choice c.args._atoms.now c.args._text.now
+returns-clause-has_outcome c = text_choice c.args.atoms.now c.args.text.now
 
 pub returns-clause-one_formula : goal.returns-clause-one_formula
 returns-clause-one_formula c f g h i = one_formula h.read.spelled i.read.spelled
 
 pub returns-clause-read_or_stopped : goal.returns-clause-read_or_stopped
-returns-clause-read_or_stopped c f stop h i = stopped c.args._atoms.now c.args._text.now f stop h i
+returns-clause-read_or_stopped c f stop h i = stopped c.args.atoms.now c.args.text.now f stop h i
 
 pub returns-clause-one_stop : goal.returns-clause-one_stop
-returns-clause-one_stop c s t h i x y = one_stop c.args._atoms.now c.args._text.now s t h i x y
+returns-clause-one_stop c s t h i x y = one_stop c.args.atoms.now c.args.text.now s t h i x y

@@ -2,4 +2,4 @@ use Rattle.problem_laws.proofs.Ordered.{in_order}
 use Rattle.problem_laws.proofs.canonical.canonical_order.Goals as goal
 
 pub returns : goal.returns
-returns c = λ place p order h. in_order c.args._reading.now place p order h
+returns c = λ place p order h. in_order c.args.reading.now place p order h

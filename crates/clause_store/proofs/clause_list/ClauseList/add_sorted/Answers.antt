@@ -30,7 +30,7 @@ invariant_of-self-2 c =
     let e5 : c.args.self.now.vars ≡ c.self.inside.vars = ap (λ (v : Clauses). v.vars) (sym c.self.view_is) in
     let e6 : InRange c.self.inside.vars c.args.lits.now = rw (← e5) c.requires.in_range in (
       (rw (e1, e2, e0, e3, length-append) (Rise-push 0 c.self.inside.ends.items (length c.self.inside.lits.items) (length c.args.lits.now) c.self.invariant.0)),
-      (rw (e2, length-append) (omega (arith, e3, c.if-end.false))),
+      (rw (e2, length-append) (omega (arith, e3, c.if-end-ge-LITERAL_LIMIT.false))),
       c.self.invariant.2,
       record {
         ascend = rw e4 (each_push Ascends (cut 0 c.self.inside.ends.items c.self.inside.lits.items) c.args.lits.now c.self.invariant.3.ascend c.requires.ascends);

@@ -1,7 +1,7 @@
 use Rattle.std.proofs.Common.{◌∙◌, subst, ℕ, List}
 use Rattle.std.specs.List.Sorted.{IsPermutation}
 use Rattle.ranks.proofs.Walks.{sorted_down_from}
-use Rattle.merge_model.proofs.sorted.LeximaxAggregator.rank_of.Goals as goal
+use Rattle.merge_model.proofs.leximax.LeximaxAggregator.rank_of.Goals as goal
 
 pub returns : goal.returns
 returns c =
