@@ -62,7 +62,7 @@ pub fn copy_agent<D: Counted>(
     ensures err { OnErr result (Grew clauses.old clauses.new
         (copy_due (D.due distance.now) clauses.old.vars shared.now base.now).clauses) }
 
-    // what the clauses mean
+    // What the clauses mean.
     ensures copies { IsCopy clauses.old.vars shared.now base.now (D.dist distance.now)
         (D.most distance.now (length shared.now)) (copy_due
         (D.due distance.now) clauses.old.vars shared.now base.now) }

@@ -8,6 +8,7 @@ use Rattle.std.proofs.lemmas.Bool.Decides.{nat_tests}
 use Rattle.std.proofs.lemmas.List.Elements.{All-map}
 use Rattle.std.proofs.lemmas.List.FromFn.{length-map-range_with_len}
 use Rattle.std.proofs.lemmas.List.Sums.{sum_by-le}
+use Rattle.std.proofs.lemmas.Bool.{not-true}
 use Rattle.formulas.specs.Formulas.{nodes_of}
 use Rattle.formulas.specs.Names.{AtomList, are_names, is_name}
 use Rattle.formulas.specs.declared.formula.Formula.{Formula}
@@ -28,10 +29,6 @@ both_left false b h = h
 both_right : (a b : Bool) → (a && b) ≡ true → b ≡ true
 both_right true b h = h
 both_right false b h = absurd (cc)
-
-not_true : (a : Bool) → not a ≡ true → a ≡ false
-not_true true h = absurd (cc)
-not_true false h = refl
 
 -- what holds of each number holds of each element of a list that is made of numbers
 all_made : {X : Type 0} (P : X → Type 0) (make : ℕ → X) (count : ℕ) → ((k : ℕ) → P (make k)) → All P (map make (range_with_len 0 count))
@@ -144,4 +141,4 @@ atom_legal k below = both_left _ _ (fit_at atom_count k fit_all below)
 
 pub atom_new : (k : ℕ) → k < atom_count → list_any (bytes_eq (atom_name k)) (map atom_name (range_with_len 0 k)) ≡ false
 unfolding fits
-atom_new k below = not_true _ (both_right (is_name (atom_name k)) _ (fit_at atom_count k fit_all below))
+atom_new k below = not-true _ (both_right (is_name (atom_name k)) _ (fit_at atom_count k fit_all below))

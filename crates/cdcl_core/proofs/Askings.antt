@@ -6,7 +6,7 @@ use Rattle.std.proofs.lemmas.List.{get_or_default}
 use Rattle.std.proofs.lemmas.Bool.{cases_lt, cases_eq}
 use Rattle.clause_store.specs.declared.lit.Lit.{Lit}
 use Rattle.watch_lists.specs.declared.entry.Entry.{Entry}
-use Rattle.watch_lists.specs.Trace.{Trace, Attached, Grows, Same, More, value_of, entry_of, under, upto, AreApart, IsStacked, IsTrace}
+use Rattle.watch_lists.specs.Trace.{Trace, value_of, entry_of, under, upto, AreApart, IsStacked, IsTrace}
 use Rattle.watch_lists.proofs.Traces.{free_entry}
 use Rattle.cdcl_core.specs.Choices.{AreTrueBefore}
 use Rattle.solver_laws.specs.Ready.{DecidesOnly}
@@ -36,10 +36,6 @@ value_more es e l b f h =
       | inl q ↦ (let n : entry_of es l.var ≡ None = subst (λ (v : ℕ). entry_of es v ≡ None) q (free_entry (entry_of es e.lit.var) e.lit.positive f) in let z = sym (ap (λ (o : Option Entry). under o l.positive) n) ∙ h in absurd (cc))
       | inr q ↦ (let t : eqb e.lit.var l.var ≡ false = grind arith in rw t h)
     ]
-
-pub value_grows : (w : List Attached) (level : ℕ) (es fs : List Entry) (l : Lit) (b : Bool) → Grows w level es fs → value_of es l ≡ Some b → value_of fs l ≡ Some b
-value_grows w level es _ l b (Same fs) h = h
-value_grows w level es _ l b (More fs gs n c m q at i) h = value_more gs (record { lit = m; level = level; reason = Some n }) l b i.free (value_grows w level es gs l b q h)
 
 value_own : (es : List Entry) (e : Entry) → value_of (e ∷ es) e.lit ≡ Some true
 value_own es e = let t : eqb e.lit.var e.lit.var ≡ true = grind arith in rw t (own e.lit.positive)

@@ -1,5 +1,5 @@
 -- Lemmas on claimed steps.
-use Rattle.std.proofs.Common.{◌≡◌, ℕ, ◌-◌, ◌≤◌, true, false, List, [], ◌∷◌, ◌++◌, length, refl, ap, sym, ◌∙◌, arith, inl, inr, subst, suc, Some, None, drop}
+use Rattle.std.proofs.Common.{◌≡◌, ℕ, ◌-◌, ◌≤◌, true, false, List, [], ◌∷◌, ◌++◌, length, refl, ap, sym, ◌∙◌, arith, inl, inr, subst, Some, None, drop}
 use Rattle.std.specs.Prelude.{slice_get}
 use Rattle.std.proofs.lemmas.Bool.{cases_Bool}
 use Rattle.clause_store.specs.declared.lit.Lit.{Lit}
@@ -73,10 +73,6 @@ claim_step known watched vars first as' rest e chain c d p n st q w r g a ra h =
 
 pub claim_end : (as' : List Lit) (c : List Lit) → AllByRecursion (IsBarred as' []) c → Refutes c as'
 claim_end as' c e = each_map (IsBarred as' []) (λ (l : Lit). has (negated l) as' ≡ true) c (λ l x. elim x [ inl h ↦ h | inr f ↦ absurd (cc) ]) e
-
-pub oldest_none : (es : List Entry) → oldest 0 es ≡ []
-oldest_none [] = refl
-oldest_none (x ∷ xs) = let e : length (x ∷ xs) - 0 ≡ suc (length xs - 0) = omega arith in ap (λ (n : ℕ). drop n (x ∷ xs)) e ∙ oldest_none xs
 
 pub oldest_all : (es : List Entry) → oldest (length es) es ≡ es
 oldest_all es = let e : length es - length es ≡ 0 = omega arith in ap (λ (n : ℕ). drop n es) e

@@ -7,48 +7,21 @@ use Rattle.std.proofs.lemmas.Bool.{cases_eq, cases_Bool, false≢true}
 use Rattle.std.proofs.lemmas.List.{get_or-set_same, get_or-set_other, take_more}
 use Rattle.clause_store.specs.declared.lit.Lit.{Lit}
 use Rattle.clause_store.specs.Lits.{rank_of, negated, same_lit, with_lit, without, joined, resolvent, sorted_onto, sorted_clause, Ascends, has}
-use Rattle.clause_store.proofs.Lits.{Ascends-with_lit, Ascends-without, Ascends-resolvent, Ascends-sorted_clause}
-use Rattle.clause_store.proofs.Sorts.{same_members}
-use Rattle.clause_store.proofs.Truths.{or_cases, or_left, or_right, or_none, or_swap, or_assoc}
+use Rattle.clause_store.proofs.Lits.{Ascends-with_lit, Ascends-without, Ascends-resolvent, Ascends-sorted_clause, Ascends-sorted_onto}
+use Rattle.clause_store.proofs.Sorts.{has-sorted_onto, has-with_lit, same_members}
+use Rattle.clause_store.proofs.Truths.{or_cases, or_left, or_right, or_none, or_assoc}
 use Rattle.watch_lists.specs.declared.entry.Entry.{Entry}
 use Rattle.watch_lists.specs.Trace.{value_of, entry_of, under, room_in, room_of, upto}
 use Rattle.watch_lists.proofs.Parts.{room_cons}
 use Rattle.solver_laws.specs.Ready.{IsFalseIn}
-use Rattle.solver_laws.proofs.Rooms.{same_lit-is, false_before, room_without}
+use Rattle.solver_laws.proofs.Rooms.{same_lit-is, false_before, room_without, some_same, room_zero}
 use Rattle.cdcl_core.specs.Marked.{mark_of, AreClear, lower, is_but, others, IsHeld, IsAdded}
 
 -- members of clauses
 
-or_again : (x z : Bool) → (x || z) ≡ (x || (x || z))
-or_again true z = refl
-or_again false z = refl
-
-pub has-with_lit : (m l : Lit) (ls : List Lit) → has m (with_lit l ls) ≡ (same_lit m l || has m ls)
-has-with_lit m l [] = refl
-has-with_lit m l (k ∷ ks) =
-    elim (cases_Bool (nat_lt (rank_of l) (rank_of k))) [
-      | inl e ↦ rw e refl
-      | inr e ↦ rw e (elim (cases_Bool (same_lit l k)) [
-        | inl s ↦ (let a : same_lit m l ≡ same_lit m k = ap (same_lit m) (same_lit-is l k s) in rw (s, a) (or_again (same_lit m k) (has m ks)))
-        | inr s ↦ rw s (ap (λ x. same_lit m k || x) (has-with_lit m l ks) ∙ or_swap (same_lit m l) (same_lit m k) (has m ks))
-      ])
-    ]
-
-pub has-sorted_onto : (m : Lit) (done ls : List Lit) → has m (sorted_onto done ls) ≡ (has m ls || has m done)
-has-sorted_onto m done [] = refl
-has-sorted_onto m done (l ∷ ls) =
-    has-sorted_onto m (with_lit l done) ls
-    ∙ ap (λ x. has m ls || x) (has-with_lit m l done)
-    ∙ or_swap (same_lit m l) (has m ls) (has m done)
-    ∙ or_assoc (same_lit m l) (has m ls) (has m done)
-
 has-joined : (m : Lit) (ls ms : List Lit) → has m (joined ls ms) ≡ (has m ls || has m ms)
 has-joined m [] ms = refl
 has-joined m (l ∷ ls) ms = has-with_lit m l (joined ls ms) ∙ ap (λ x. same_lit m l || x) (has-joined m ls ms) ∙ or_assoc (same_lit m l) (has m ls) (has m ms)
-
-pub Ascends-sorted_onto : (done ls : List Lit) → Ascends done → Ascends (sorted_onto done ls)
-Ascends-sorted_onto done [] s = s
-Ascends-sorted_onto done (l ∷ ls) s = Ascends-sorted_onto (with_lit l done) ls (Ascends-with_lit l done s)
 
 or_back : (x y : Bool) → (x || y) ≡ (y || x)
 or_back true true = refl
@@ -118,9 +91,6 @@ has_last m l [] = or_none (same_lit m l)
 has_last m l (x ∷ xs) = ap (λ b. same_lit m x || b) (has_last m l xs) ∙ or_assoc (same_lit m x) (has m xs) (same_lit m l)
 
 -- false literals
-
-some_same : (a b : Bool) → (let x : Option Bool = Some a in let y : Option Bool = Some b in x ≡ y) → a ≡ b
-some_same a b h = cc
 
 same_sign : (a b c : Bool) → beq a b ≡ false → beq a c ≡ false → b ≡ c
 same_sign true true c h g = absurd (cc)
@@ -348,18 +318,13 @@ room_below (suc n) lv es l r h = let t : nat_lt n lv ≡ false = grind arith in 
 pub open_not : (es : List Entry) (l : Lit) → room_in (value_of es l) ≡ 1 → IsFalseIn es l → ⊥
 open_not es l h f = omega (arith, h, ap room_in f)
 
-closed_is : (o : Option Bool) → room_in o ≡ 0 → o ≡ Some false
-closed_is None h = absurd (omega arith)
-closed_is (Some true) h = absurd (omega arith)
-closed_is (Some false) h = refl
-
 pub mark_waits : (all low : List Entry) (m : List Bool) (k : List Lit) (l : Lit) → IsFalseIn all l → l.var < length m → mark_of m l.var ≡ false → room_in (value_of low l) ≡ 1 → IsAdded all low m k (set m l.var true) k (l ∷ []) 1
 mark_waits all low m k l f lt t o rest c a g h =
     (held_waits all low rest m k c l h (g.0 f) (open_not low l o) lt, λ z. omega (arith, room-with_lit low l c (sym (h.marks l f) ∙ t), o))
 
 pub mark_low : (all low : List Entry) (m : List Bool) (k : List Lit) (l : Lit) → IsFalseIn all l → l.var < length m → mark_of m l.var ≡ false → room_in (value_of low l) ≡ 0 → IsAdded all low m k (set m l.var true) (k ++ l ∷ []) (l ∷ []) 0
 mark_low all low m k l f lt t o rest c a g h =
-    (held_low all low rest m k c l h (g.0 f) (closed_is (value_of low l) o) lt, λ z. omega (arith, room-with_lit low l c (sym (h.marks l f) ∙ t), o))
+    (held_low all low rest m k c l h (g.0 f) (room_zero (value_of low l) o) lt, λ z. omega (arith, room-with_lit low l c (sym (h.marks l f) ∙ t), o))
 
 pub keep_true : (all low : List Entry) (m : List Bool) (k : List Lit) (l : Lit) (n : ℕ) → (IsFalseIn all l → ⊥) → IsAdded all low m k m (k ++ l ∷ []) (l ∷ []) n
 keep_true all low m k l n f rest c a g h = (held_true all low rest m k c l h f, λ z. absurd (f z.0))

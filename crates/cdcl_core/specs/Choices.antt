@@ -1,6 +1,7 @@
 -- What is decided next.
 use Rattle.std.specs.Prelude.{◌≡◌, ◌≢◌, ℕ, ◌+◌, ◌<◌, ◌≤◌, Bool, true, false, List, length, Some, None, slice_index_or, unwrap_or, All, Contains}
 use Rattle.clause_store.specs.declared.lit.Lit.{Lit}
+use Rattle.clause_store.specs.Lits.{negative_lit, positive_lit}
 use Rattle.watch_lists.specs.declared.entry.Entry.{Entry}
 use Rattle.watch_lists.specs.Trace.{Trace, value_of}
 use Rattle.cdcl_core.specs.declared.choice.Choice.{Choice}
@@ -12,7 +13,7 @@ IsFree t l = (1 ≤ l.var) × (l.var ≤ t.vars) × (value_of t.entries l ≡ No
 
 -- each variable has a value
 abbrev pub IsFull : Trace → Type 0
-IsFull t = (v : ℕ) → 1 ≤ v → v ≤ t.vars → value_of t.entries (record { var = v; positive = false }) ≢ None
+IsFull t = (v : ℕ) → 1 ≤ v → v ≤ t.vars → value_of t.entries (negative_lit v) ≢ None
 
 -- each assumption before the place is true
 abbrev pub AreTrueBefore : ℕ → List Lit → List Entry → Type 0
@@ -28,4 +29,4 @@ IsChosen place asked t Full = All (λ l. value_of t.entries l ≡ Some true) ask
 -- the value of each variable, false where it has none
 pub record HasValues (t : Trace) (values : List Bool) : Type 0 where
   pub size : length values ≡ t.vars
-  pub each : (v : ℕ) → v < t.vars → slice_index_or values v false ≡ unwrap_or (value_of t.entries (record { var = v + 1; positive = true })) false
+  pub each : (v : ℕ) → v < t.vars → slice_index_or values v false ≡ unwrap_or (value_of t.entries (positive_lit (v + 1))) false

@@ -8,7 +8,6 @@ ghost use Rattle.watch_lists.specs.Trace.{StandIn, Attached};
 ghost use Rattle.solver_laws.specs.Ready.{IsLog, AllFit};
 ghost use Rattle.cdcl_core.specs.Replies.{IsAnswered, IsBrokenOff, IsJust};
 ghost use Rattle.cdcl_core.specs.Replies.{IsLonger, IsDecided};
-ghost use Rattle.cdcl_core.specs.State.{State};
 
 use crate::marks::Marks;
 use crate::order::Order;
@@ -34,7 +33,6 @@ pub struct Solver<P: Propagator + Drop> {
 }
 
 impl<P: Propagator + Drop> Model for Solver<P> {
-    ghost use Rattle.std.specs.Prelude.{◌≡◌, true, false};
     ghost use Rattle.cdcl_core.specs.State.{State, IsResting};
 
     ghost Value = { State };

@@ -112,7 +112,7 @@ InRange-sorted_onto v done (l ∷ ls) h k = InRange-sorted_onto v (with_lit l do
 pub InRange-sorted_clause : (v : ℕ) (ls : List Lit) → InRange v ls → InRange v (sorted_clause ls)
 InRange-sorted_clause v ls k = InRange-sorted_onto v [] ls tt k
 
-Ascends-sorted_onto : (done ls : List Lit) → Ascends done → Ascends (sorted_onto done ls)
+pub Ascends-sorted_onto : (done ls : List Lit) → Ascends done → Ascends (sorted_onto done ls)
 Ascends-sorted_onto done [] s = s
 Ascends-sorted_onto done (l ∷ ls) s = Ascends-sorted_onto (with_lit l done) ls (Ascends-with_lit l done s)
 

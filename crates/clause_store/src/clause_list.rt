@@ -40,7 +40,7 @@ impl Model for ClauseList {
 }
 
 impl ClauseList {
-    ghost use Rattle.clause_store.specs.Clauses.{Clauses, IsWhole};
+    ghost use Rattle.clause_store.specs.Clauses.{IsWhole};
 
     /// No clauses over no variables.
     pub fn new(alloc: Global) -> ClauseList

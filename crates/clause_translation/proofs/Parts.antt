@@ -150,9 +150,6 @@ module _ (node : Lit → Lit → List (List Lit)) (f p : Formula) (atoms : List 
         let k = ap (λ (d : Definition). old.list ++ map sorted_clause d.clauses) (is.due atoms old.vars) in
         cc (e, list, own_due, k, append_assoc old.list (map sorted_clause d.clauses) (map sorted_clause own), stored-append d.clauses own)
 
-    pub one_root : (new : ℕ) → new ≡ mid.vars + 1 → new ≡ (definition atoms f old.vars).root
-    one_root new e = e ∙ ap (λ n. n + 1) vars ∙ sym (ap (λ (d : Definition). d.root) (is.due atoms old.vars))
-
 -- after the left part
 module _ (node : Lit → Lit → Lit → List (List Lit)) (f l r : Formula) (atoms : List Lit) (old : Clauses) (is : IsOverTwo node f l r) where
   pub left_grew : (new : Clauses) → Grew old new (definition atoms l old.vars).clauses → Grew old new (definition atoms f old.vars).clauses
@@ -221,6 +218,3 @@ module _ (node : Lit → Lit → Lit → List (List Lit)) (f l r : Formula) (ato
           let own = node (positive_lit (e.root + 1)) (positive_lit d.root) (positive_lit e.root) in
           let k = ap (λ (d : Definition). old.list ++ map sorted_clause d.clauses) (is.due atoms old.vars) in
           cc (h, list, list', right_due, two_own, k, append_assoc old.list (map sorted_clause d.clauses) (map sorted_clause e.clauses), append_assoc old.list (map sorted_clause d.clauses ++ map sorted_clause e.clauses) (map sorted_clause own), append_assoc (map sorted_clause d.clauses) (map sorted_clause e.clauses) (map sorted_clause own), stored-append d.clauses (e.clauses ++ own), stored-append e.clauses own)
-
-      pub two_root : (new : ℕ) → new ≡ end.vars + 1 → new ≡ (definition atoms f old.vars).root
-      two_root new e = e ∙ ap (λ n. n + 1) last ∙ sym (ap (λ (d : Definition). d.root) (is.due atoms old.vars))

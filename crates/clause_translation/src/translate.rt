@@ -76,7 +76,7 @@ pub fn define(clauses: &mut ClauseList, formula: &Formula, atoms: &[Lit]) -> Res
     ensures err { OnErr result (Grew clauses.old clauses.new
         (definition atoms.now formula.now clauses.old.vars).clauses) }
 
-    // what the clauses mean
+    // What the clauses mean.
     ensures fresh { (definition atoms.now formula.now clauses.old.vars).root ≡
         clauses.old.vars + nodes_of formula.now }
     ensures defines { Defines clauses.old.vars atoms.now formula.now

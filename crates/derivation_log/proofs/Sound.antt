@@ -1,10 +1,11 @@
 -- Steps that follow keep every satisfying assignment.
-use Rattle.std.proofs.Common.{◌≡◌, ℕ, Bool, true, false, not, ◌||◌, List, [], ◌∷◌, ◌++◌, refl, ap, sym, ◌∙◌, inl, inr, subst, append_assoc, zero, suc, arith}
+use Rattle.std.proofs.Common.{◌≡◌, ℕ, Bool, true, false, ◌||◌, List, [], ◌∷◌, ◌++◌, refl, ap, sym, ◌∙◌, inl, inr, subst, append_assoc, zero, suc, arith}
 use Rattle.std.proofs.lemmas.Bool.Decides.{nat_tests}
 use Rattle.clause_store.proofs.Lits.{rank_lit}
 use Rattle.std.specs.Prelude.{Contains}
 use Rattle.std.specs.List.{AllByRecursion}
 use Rattle.std.proofs.lemmas.List.{append-nil}
+use Rattle.std.proofs.lemmas.Bool.{not-true}
 use Rattle.clause_store.specs.declared.lit.Lit.{Lit}
 use Rattle.clause_store.specs.Lits.{negated, resolvent, has, same_lit, rank_of}
 use Rattle.clause_store.specs.Truth.{lit_true, clause_true, all_true, AreTrue}
@@ -37,16 +38,12 @@ has_all a l (m ∷ ms) h t = elim (or_cases (same_lit l m) (has l ms) h) [
   | inr s ↦ has_all a l ms s t.1
 ]
 
-not_true : (b : Bool) → not b ≡ true → b ≡ false
-not_true true e = absurd (cc)
-not_true false e = refl
-
 -- a clause that refutes assumptions is false where they are true
 refuted_false : (a : ℕ → Bool) (c assumptions : List Lit) → Refutes c assumptions → AllByRecursion (λ l. lit_true a l ≡ true) assumptions → clause_true a c ≡ false
 refuted_false a [] assumptions r t = refl
 refuted_false a (l ∷ ls) assumptions r t =
     let n : lit_true a (negated l) ≡ true = has_all a (negated l) assumptions r.0 t in
-    let f : lit_true a l ≡ false = not_true (lit_true a l) (sym (lit_true-negated a l) ∙ n) in
+    let f : lit_true a l ≡ false = not-true (lit_true a l) (sym (lit_true-negated a l) ∙ n) in
     ap (λ (b : Bool). b || clause_true a ls) f ∙ refuted_false a ls assumptions r.1 t
 
 member_true : (a : ℕ → Bool) (cs : List (List Lit)) (c : List Lit) → AreTrue cs a → Contains cs c → clause_true a c ≡ true

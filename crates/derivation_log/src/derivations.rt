@@ -3,7 +3,7 @@ ghost use Rattle.std.specs.Prelude.{◌≡◌, ◌+◌, ◌<◌, ◌≤◌, ◌-
 ghost use Rattle.std.specs.Prelude.{Some, IfOk, OnOk, OnErr};
 ghost use Rattle.clause_store.specs.Lits.{InRange};
 ghost use Rattle.clause_store.specs.Limits.{clause_limit};
-ghost use Rattle.derivation_log.specs.Logs.{Log, known_of, IsSound};
+ghost use Rattle.derivation_log.specs.Logs.{known_of, IsSound};
 ghost use Rattle.derivation_log.specs.StepLines.{HasLine};
 ghost use Rattle.derivation_log.specs.Trimming.{IsTrimmed, IsSameStep, AreUsed};
 ghost use Rattle.std.specs.List.{AllByRecursion, AllZip};

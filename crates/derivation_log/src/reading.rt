@@ -13,7 +13,7 @@ use crate::wide::{WideLink, WideStep};
 use clause_store::{Clause, Lit};
 use edge::NoMemory;
 use report_words::{WideLit, Words, literal_of, number_of};
-use std::alloc::{AllocError, AllocFailed, Global};
+use std::alloc::Global;
 
 /// Variables are numbered below it.
 const NUMBER_LIMIT: u64 = 1 << 32;

@@ -19,9 +19,8 @@ use Rattle.agent_copies.specs.Copy.{CopyDue}
 use Rattle.distance_search.proofs.Ready.{ready}
 use Rattle.merge_encoding.specs.declared.frame.Frame.{Frame}
 use Rattle.merge_encoding.specs.Frames.{copy_of, frame_of}
-use Rattle.merge_encoding.specs.Claims.{NoModelOfBase, NoNearer, base_at, own_at}
+use Rattle.merge_encoding.specs.Claims.{NoModelOfBase, NoNearer, base_at}
 use Rattle.distance_search.specs.declared.answer.Away.{Away}
-use Rattle.distance_search.specs.declared.reply.Witness.{Witness}
 use Rattle.distance_search.specs.declared.reply.Reply.{Reply}
 use Rattle.distance_search.specs.declared.reply.Reply.TheVariants.{Refuted}
 use Rattle.distance_search.specs.Setting.{Setting, IsAskable}
@@ -73,12 +72,6 @@ nearest_by s log v near agent k r number size m e lo is answer =
     let a = subst (λ r. IsAnswer s log (NoNearer agent v k) r) is answer in
     record { model = m; distance = e; exact = away_is s v near (base_at s.profile agent) k size m e a.0; proven = (omega arith, a.1) }
 
--- the turn of a lowering loop that found a nearer model
-pub record IsNearer (s : Setting) (v : List Bool) (agent k : ℕ) (x : Witness) : Type 0 where
-  pub there : agent < length x.own.items
-  pub model : IsModel s.profile.atoms (base_at s.profile agent) (own_at x.own.items agent)
-  pub nearer : s.dist v (own_at x.own.items agent) < k
-
 pub agents_are : (s : Setting) → Laws s → (frame : Frame) (n : ℕ) → frame ≡ frame_of s.main → n ≡ length frame.copies → n ≡ length s.profile.bases
 agents_are s law frame n e f = f ∙ ap (λ (x : Frame). length x.copies) e ∙ length-map s.main.copies copy_of ∙ copies_size s law
 
@@ -88,10 +81,6 @@ pub base_refuted : (s : Setting) (log : Log) (agent : ℕ) (r : Reply) (number :
 base_refuted s log agent r number lt have is answer =
     let a = subst (λ r. IsAnswer s log (NoModelOfBase agent) r) is answer in
     a.0 (All-get_or (HasModel s.profile.atoms) s.profile.bases agent formula.Top lt have)
-
-pub record IsBaseModel (s : Setting) (agent : ℕ) (x : Witness) : Type 0 where
-  pub there : agent < length x.own.items
-  pub model : IsModel s.profile.atoms (base_at s.profile agent) (own_at x.own.items agent)
 
 pub one_model : (s : Setting) (agent : ℕ) (models pushed : List (List Bool)) (v : List Bool) → agent < length s.profile.bases → AllZip (IsModel s.profile.atoms) (take agent s.profile.bases) models → IsModel s.profile.atoms (base_at s.profile agent) v → pushed ≡ models ++ v ∷ [] → AllZip (IsModel s.profile.atoms) (take (agent + 1) s.profile.bases) pushed
 one_model s agent models pushed v lt h m e =

@@ -3,7 +3,6 @@ use Rattle.std.proofs.Common.{◌≡◌, ◌≢◌, ℕ, zero, suc, ◌+◌, ◌
 use Rattle.std.specs.List.{AllZip}
 use Rattle.std.specs.Cmp.Lexicographic.{slice_cmp}
 use Rattle.std.specs.Ordering.{is_gt, nat_cmp}
-use Rattle.std.proofs.lemmas.Cmp.{upto, nat_list_cmp_total}
 use Rattle.std.proofs.lemmas.List.{length-map}
 use Rattle.std.proofs.lemmas.List.Elements.{All-cons, All-nil, All-head, All-weaker, length_all_zip}
 use Rattle.formulas.specs.declared.formula.Formula.{Formula}
@@ -18,10 +17,8 @@ use Rattle.distance_search.specs.Setting.{Setting}
 use Rattle.distance_search.specs.Laws.{Laws}
 use Rattle.distance_search.specs.Replies.{IsTrueIn}
 use Rattle.distance_search.specs.LevelValues.{true_values, values_in, IsLeast}
-use Rattle.distance_search.proofs.Orders.{NotAbove, one_list, up_to_lex, no_first_lower, better_is_below}
-
-chained : (xs ys zs : List ℕ) → NotAbove xs ys → NotAbove ys zs → NotAbove xs zs
-chained xs ys zs h k = upto nat_list_cmp_total xs ys zs h k
+use Rattle.merge_encoding.proofs.ValueOrders.{NotAbove, chained, one_list, up_itself, up_to_lex, no_first_lower, better_is_below}
+use Rattle.merge_encoding.proofs.Signs.{fit_length}
 
 -- the copies' distances are no less than the true ones
 copies_up : (dist : List Bool → List Bool → ℕ) (n : ℕ) (v : List Bool) → length v ≡ n → (fs : List Formula) (ws : List (List Bool)) → AllZip (IsModel n) fs ws → AreUpTo (map (away dist v) fs) (map (dist v) ws)
@@ -60,12 +57,6 @@ zip_long n [] [] h = refl
 zip_long n [] (w ∷ ws) h = absurd h
 zip_long n (f ∷ fs) [] h = absurd h
 zip_long n (f ∷ fs) (w ∷ ws) h = ap suc (zip_long n fs ws h.1)
-
-fit_long : (values : List ℕ) (levels : List (List ℕ)) → FitLevels values levels → length values ≡ length levels
-fit_long [] [] h = refl
-fit_long [] (l ∷ ls) h = absurd h
-fit_long (x ∷ xs) [] h = absurd h
-fit_long (x ∷ xs) (l ∷ ls) h = ap suc (fit_long xs ls h.1)
 
 -- full lists as the order sees them
 pub record AreSeen (s : Setting) (us : List ℕ) : Type 0 where
@@ -109,7 +100,7 @@ values_fit s law v ws c =
     main.levels_fit (map (s.dist v) ws) (copies_long s v ws c.models) (dists_within s law v m.size s.profile.bases ws c.models)
 
 values_long : (s : Setting) → Laws s → (v : List Bool) (ws : List (List Bool)) → IsCandidate s.profile v ws → length (values_in s v ws) ≡ length s.main.levels
-values_long s law v ws c = fit_long (values_in s v ws) s.main.levels (values_fit s law v ws c)
+values_long s law v ws c = fit_length (values_in s v ws) s.main.levels (values_fit s law v ws c)
 
 -- no candidate is lexicographically below the least values
 pub least_below : (s : Setting) → Laws s → (values : List ℕ) → IsLeast s values → (v : List Bool) (ws : List (List Bool)) → IsCandidate s.profile v ws → NotAbove values (values_in s v ws)
@@ -193,25 +184,21 @@ closest_values s law v u a b =
     (ap is_gt (truths_order s law a.consistent v u mv.size mu.size) ∙ a.best u mu)
     (ap is_gt (truths_order s law b.consistent u v mu.size mv.size) ∙ b.best v mv)
 
-up_itself : (us : List ℕ) → AreUpTo us us
-up_itself [] = tt
-up_itself (u ∷ us) = (omega arith, up_itself us)
-
 -- each closest valuation has copies with exactly the least values
 pub closest_candidate : (s : Setting) → (v : List Bool) (values : List ℕ) → IsClosest s.dist s.rank s.profile v → true_values s v ≡ values → (ws : List (List Bool)) × IsCandidate s.profile v ws × AreUpTo (values_in s v ws) values
 closest_candidate s v values a e =
     let c = truth_is_candidate s a.consistent v a.model in
     (c.0, c.1, subst (λ us. AreUpTo (values_in s v c.0) us) (c.2 ∙ e) (up_itself (values_in s v c.0)))
 
-false_or : (b : Bool) → (b ≡ false → ⊥) → b ≡ true
-false_or true h = refl
-false_or false h = absurd (h refl)
+unless_false : (b : Bool) → (b ≡ false → ⊥) → b ≡ true
+unless_false true h = refl
+unless_false false h = absurd (h refl)
 
 -- a query holds at each closest valuation, from a refuted claim
 pub entailed_from : (s : Setting) → Laws s → (q : ℕ) (best : List Bool) (values : List ℕ) → IsClosest s.dist s.rank s.profile best → true_values s best ≡ values → IsTrueIn s (NoBreaker q values) → (v : List Bool) → IsClosest s.dist s.rank s.profile v → holds (ask_at s.asks q) v ≡ true
 entailed_from s law q best values is e claim v a =
     let c = closest_candidate s v values a (closest_values s law v best a is ∙ e) in
-    false_or (holds (ask_at s.asks q) v) (λ no. claim v c.0 c.1 no c.2)
+    unless_false (holds (ask_at s.asks q) v) (λ no. claim v c.0 c.1 no c.2)
 
 -- no closest valuation begins so
 pub none_with : (s : Setting) → Laws s → (prefix : List Bool) (best : List Bool) (values : List ℕ) → IsClosest s.dist s.rank s.profile best → true_values s best ≡ values → IsTrueIn s (NoModelWith values prefix) → (v : List Bool) → IsClosest s.dist s.rank s.profile v → take (length prefix) v ≡ prefix → ⊥

@@ -1,7 +1,6 @@
 pub mod Logs
 pub mod Told
 pub mod Answering
-pub mod Orders
 pub mod Least
 pub mod Measured
 pub mod Halts

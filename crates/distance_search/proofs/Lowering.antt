@@ -20,9 +20,11 @@ use Rattle.distance_search.specs.LevelValues.{values_in}
 use Rattle.distance_search.specs.Results.{IsConsistent, IsProven, AreProven}
 use Rattle.distance_search.specs.Turns.{IsReached, IsLeastBelow, IsLowered, IsLeastTo, AreLowered}
 use Rattle.distance_search.proofs.Ready.{ready}
-use Rattle.distance_search.proofs.Orders.{kept_before, better_before}
+use Rattle.merge_encoding.proofs.ValueOrders.{kept_before, better_before, none_below_zero}
+use Rattle.merge_encoding.proofs.Signs.{fit_length}
 use Rattle.distance_search.proofs.Least.{truth_is_candidate, values_fit}
-use Rattle.distance_search.proofs.Places.{take_less, less_or, get_front, one_proven, proven_on}
+use Rattle.distance_search.proofs.Places.{take_less, get_front, one_proven, proven_on}
+use Rattle.merge_model.proofs.Best.{below_or_at}
 
 -- ---- the first question
 
@@ -74,9 +76,6 @@ lower_there j (u ∷ us) [] b = absurd b
 lower_there zero (u ∷ us) (v ∷ vals) b = b
 lower_there (suc j) (u ∷ us) (v ∷ vals) b = lower_there j us vals b.1
 
-none_at_zero : (j : ℕ) (us vals : List ℕ) → slice_index vals j ≡ 0 → IsBetterAt j us vals → ⊥
-none_at_zero j us vals e b = omega (arith, lower_there j us vals b)
-
 least_below_on : (s : Setting) (j : ℕ) (vals others : List ℕ) → take j others ≡ take j vals → IsLeastBelow s j vals → IsLeastBelow s j others
 least_below_on s j vals others e h = λ i lt v ws c b. h i lt v ws c (better_before i (values_in s v ws) others vals (take_less (suc i) j others vals (omega arith) e) b)
 
@@ -86,7 +85,7 @@ lowered_before s j v ws vals first least e c b =
 
 -- at a value of 0 nothing is lower
 pub lowest_at_zero : (s : Setting) (log : Log) (j : ℕ) (from made : Witness) → slice_index made.values.items j ≡ 0 → IsReached s made → take j made.values.items ≡ take j from.values.items → IsLowered s log j from made None
-lowest_at_zero s log j from made e r t = record { reached = r; before = t; least = λ v ws c b. none_at_zero j (values_in s v ws) made.values.items e b; proven = e }
+lowest_at_zero s log j from made e r t = record { reached = r; before = t; least = λ v ws c b. none_below_zero j (values_in s v ws) made.values.items e b; proven = e }
 
 found_better : (s : Setting) (log : Log) (j : ℕ) (vals : List ℕ) (r : Reply) (x : Witness) → r ≡ Found x → IsAnswer s log (NoBetter j vals) r → IsReached s x × IsBetterAt j x.values.items vals
 found_better s log j vals r x e h =
@@ -115,14 +114,8 @@ smaller s log j vals given next r x old new copy read is answer e f =
     let a = found_better s log j vals r x is (subst (λ us. IsAnswer s log (NoBetter j us) r) copy answer) in
     omega (arith, lower_there j x.values.items vals a.1, ap (λ us. slice_index us j) read)
 
-pub fit_long : (values : List ℕ) (levels : List (List ℕ)) → FitLevels values levels → length values ≡ length levels
-fit_long [] [] h = refl
-fit_long [] (l ∷ ls) h = absurd h
-fit_long (x ∷ xs) [] h = absurd h
-fit_long (x ∷ xs) (l ∷ ls) h = ap suc (fit_long xs ls h.1)
-
 pub level_there : (s : Setting) (x : Witness) (j : ℕ) (given : List ℕ) → given ≡ x.values.items → IsReached s x → j < length s.main.levels → j < length given
-level_there s x j given copy r lt = let w = r.witness in omega (arith, ap length copy, fit_long x.values.items s.main.levels w.fits)
+level_there s x j given copy r lt = let w = r.witness in omega (arith, ap length copy, fit_length x.values.items s.main.levels w.fits)
 
 pub found_there : (s : Setting) (log : Log) (j : ℕ) (given read : List ℕ) (r : Reply) (x : Witness) → read ≡ x.values.items → r ≡ Found x → IsAnswer s log (NoBetter j given) r → j < length s.main.levels → j < length read
 found_there s log j given read r x copy is answer lt = level_there s x j read copy (found_better s log j given r x is answer).0 lt
@@ -145,7 +138,7 @@ least_to_on s a b values others j fs g e h = record {
 }
 
 below_next : (s : Setting) (j : ℕ) (from made : List ℕ) → IsLeastBelow s j from → take j made ≡ take j from → IsTrueIn s (NoBetter j made) → IsLeastBelow s (j + 1) made
-below_next s j from made below before least i lt = elim (less_or i j lt) [
+below_next s j from made below before least i lt = elim (below_or_at i j lt) [
   | inl l ↦ least_below_on s j from made before below i l
   | inr e ↦ subst (λ k. IsTrueIn s (NoBetter k made)) (sym e) least
 ]
@@ -159,7 +152,7 @@ next_level s a b j from made fs pushed f lt g old low is =
     let reached = low.reached in
     let w = reached.witness in
     let values = made.values.items in
-    let there : j < length values = omega (arith, fit_long values s.main.levels w.fits) in
+    let there : j < length values = omega (arith, fit_length values s.main.levels w.fits) in
     let long : length (take j values) ≡ j = length-take-le j values (omega arith) in
     let kept : IsLeastTo s b j values fs = least_to_on s a b from.values.items values j fs g low.before old.proven in
     let one : IsProven s b (slice_index values j) (NoBetter (length (take j values)) values) f = subst (λ i. IsProven s b (slice_index values j) (NoBetter i values) f) (sym long) low.proven in

@@ -33,9 +33,6 @@ take_less (suc i) (suc j) (x ∷ xs) (y ∷ ys) h e =
     let ih = take_less i j xs ys (omega arith) rest in
     cc
 
-pub less_or : (i j : ℕ) → i < j + 1 → (i < j) ⊎ (i ≡ j)
-less_or i j h = grind arith
-
 -- what shows a number in a log shows it in a longer one
 pub proven_on : (s : Setting) (a b : Log) (k : ℕ) (claim : Assertion) (step : Option ℕ) → IsLonger a b → IsProven s a k claim step → IsProven s b k claim step
 proven_on s a b k claim None g h = h

@@ -13,6 +13,8 @@ use Rattle.cdcl_core.specs.Replies.{IsLonger}
 use Rattle.aggregators.specs.Levels.{FitLevels}
 use Rattle.merge_model.specs.Merging.{IsModel, HasModel, IsClosest, repeated}
 use Rattle.merge_encoding.specs.Claims.{Assertion, NoModelOfConstraint, NoModelOfBase, NoBetter, NoBreaker, NoModelWith, AreUpTo, base_at, ask_at}
+use Rattle.merge_encoding.proofs.ValueOrders.{up_itself}
+use Rattle.merge_encoding.proofs.Signs.{fit_length}
 use Rattle.distance_search.specs.declared.answer.Away.{Away}
 use Rattle.distance_search.specs.declared.answer.Best.{Best}
 use Rattle.distance_search.specs.declared.answer.Consistency.{Consistency}
@@ -32,11 +34,6 @@ use Rattle.distance_search.proofs.Ready.{ready}
 use Rattle.distance_search.proofs.Logs.{shows_on}
 use Rattle.distance_search.proofs.Least.{least_closest, truth_is_candidate, values_fit, entailed_from, none_with, closest_from}
 use Rattle.distance_search.proofs.Places.{all_proven_on, get_pushed}
-use Rattle.distance_search.proofs.Lowering.{fit_long}
-
-up_itself : (us : List ℕ) → AreUpTo us us
-up_itself [] = tt
-up_itself (u ∷ us) = (omega arith, up_itself us)
 
 -- ---- the best answer
 
@@ -50,7 +47,7 @@ pub found_closest : (s : Setting) → Laws s → (log : Log) (x : Witness) (fs :
 found_closest s law log x fs low =
     let r = low.reached in
     let w = r.witness in
-    let long : length x.values.items ≡ length s.main.levels = fit_long x.values.items s.main.levels w.fits in
+    let long : length x.values.items ≡ length s.main.levels = fit_length x.values.items s.main.levels w.fits in
     let least : IsLeast s x.values.items = (long, λ j lt. low.below j (omega arith)) in
     let c = least_closest s law x.shared x.own.items x.values.items least r.candidate (subst (λ us. AreUpTo us x.values.items) w.values (up_itself x.values.items)) in
     record {

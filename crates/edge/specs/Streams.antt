@@ -1,5 +1,5 @@
 -- What the calls of a source and a sink do.
-use Rattle.std.specs.Prelude.{◌≡◌, ℕ, ◌+◌, ◌<◌, ◌≤◌, List, length, Option, None, Some, Result, MatchResult, IfOk}
+use Rattle.std.specs.Prelude.{◌≡◌, ℕ, ◌+◌, ◌^◌, ◌<◌, ◌≤◌, List, length, Option, None, Some, Result, MatchResult, IfOk}
 use Rattle.std.specs.Io.KnownBytes.{Consumes}
 
 -- the room loses as many bytes as a read gave, and none at an error
@@ -9,6 +9,10 @@ Spends before now result = MatchResult result (λ count. count + now ≡ before)
 -- the most bytes that one read asks for
 abbrev pub piece_limit : ℕ
 piece_limit = 4096
+
+-- the most bytes that a stream of the system gives
+abbrev pub stream_limit : ℕ
+stream_limit = 2 ^ 40
 
 -- more than the limit, where there is one
 abbrev pub Exceeds : Option ℕ → ℕ → Type 0

@@ -19,7 +19,7 @@ pub struct PlannedSource {
 }
 
 impl Model for PlannedSource {
-    ghost use Rattle.std.specs.Prelude.{◌≡◌, ◌<◌};
+    ghost use Rattle.std.specs.Prelude.{◌≡◌};
     ghost use Rattle.edge.specs.Planned.{PlannedIn};
 
     ghost Value = { PlannedIn };

@@ -1,18 +1,18 @@
-ghost use Rattle.std.specs.Prelude.{◌≡◌, ◌<◌, ◌^◌, None, IfOk, take, length};
+ghost use Rattle.std.specs.Prelude.{◌≡◌, ◌<◌, None, IfOk, take, length};
 ghost use Rattle.std.specs.Io.{ReadsAtMost};
 ghost use Rattle.std.specs.Io.KnownBytes.{ReadConsumes, WriteAppends, Consumes, Appends, IsAtEnd};
 ghost use Rattle.edge.specs.Faults.{HasCause};
-ghost use Rattle.edge.specs.Streams.{Spends, TakesSome};
+ghost use Rattle.edge.specs.Streams.{Spends, stream_limit, TakesSome};
 
 use crate::{Failed, Sink, Source};
 use std::io::{Read, Write};
 use std::marker::Model;
 
-/// How many bytes a stream may give.
-const ROOM: u64 = 1 << 40;
+/// How many bytes a stream may give; `stream_limit` of the specs.
+const STREAM_LIMIT: u64 = 1 << 40;
 
-/// A source over any reader. It tells nothing of what is left and gives at most `2 ^ 40` bytes.
-/// Contracts see it as a `PipedIn`.
+/// A source over any reader. It tells nothing of what is left and gives at most `2 ^ 40` bytes
+/// (`stream_limit`). Contracts see it as a `PipedIn`.
 #[derive(Drop)]
 pub struct StdSource<R> {
     input: R,
@@ -31,11 +31,11 @@ impl<R> Model for StdSource<R> {
 impl<R: Read> StdSource<R> {
     /// A source over this reader, with no fault so far.
     pub fn new(input: R) -> Self
-        ensures { result ≡ record { input = input; room = 2 ^ 40; faults = 0 } }
+        ensures { result ≡ record { input = input; room = stream_limit; faults = 0 } }
     {
         StdSource {
             input,
-            room: ROOM,
+            room: STREAM_LIMIT,
             faults: 0,
         }
     }

@@ -51,7 +51,7 @@ nodes_spelled bottom = nodes_bottom
 nodes_spelled (atom k) = nodes_atom k
 nodes_spelled (bracketed {ts = ts} h) = nodes_spelled h ∙ sym (nodes_bracketed ts)
 
-both_false : (a b : Bool) → (a || b) ≡ false → (a ≡ false) × (b ≡ false)
+pub both_false : (a b : Bool) → (a || b) ≡ false → (a ≡ false) × (b ≡ false)
 both_false true b h = absurd (cc)
 both_false false b h = (refl, h)
 

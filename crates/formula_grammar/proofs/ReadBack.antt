@@ -54,11 +54,11 @@ spelled_by : (names : List (List ℕ)) (f : Formula) (ss : List Lexeme) → form
     Spells negation (symbols_of names (formula_lexemes names f)) f
 spelled_by names f ss e h = subst (λ (xs : List Lexeme). Spells negation (symbols_of names xs) f) (sym e) h
 
-first_false : (a b : Bool) → (a || b) ≡ false → a ≡ false
+pub first_false : (a b : Bool) → (a || b) ≡ false → a ≡ false
 first_false true b h = absurd (cc)
 first_false false b h = refl
 
-second_false : (a b : Bool) → (a || b) ≡ false → b ≡ false
+pub second_false : (a b : Bool) → (a || b) ≡ false → b ≡ false
 second_false true b h = absurd (cc)
 second_false false b h = h
 

@@ -43,7 +43,7 @@ pub record IsAtomName (names : List (List ℕ)) (k : ℕ) : Type 0 where
   pub free : is_reserved (name_of names k) ≡ false
   pub number : position_or_len (bytes_eq (name_of names k)) names ≡ k
 
-plain_word : (w : List ℕ) → is_plain_name w ≡ true → IsWord w
+pub plain_word : (w : List ℕ) → is_plain_name w ≡ true → IsWord w
 plain_word [] h = absurd (cc)
 plain_word (b ∷ w) h = record { some = λ e. cc; all = (both_true _ (list_all is_word_byte (b ∷ w)) h).1 }
 

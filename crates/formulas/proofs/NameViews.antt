@@ -27,10 +27,10 @@ pub plain_by_first : (name : List ℕ) (first : ℕ) → Some first ≡ slice_ge
 plain_by_first [] first e = absurd (grind arith)
 plain_by_first (byte ∷ rest) first e = grind arith
 
-bytes_eq-comm : (m n : List ℕ) → bytes_eq m n ≡ false → bytes_eq n m ≡ false
+pub bytes_eq-comm : (m n : List ℕ) → bytes_eq m n ≡ false → bytes_eq n m ≡ false
 bytes_eq-comm m n e = grind (arith, bytes_eq-Decides m n, bytes_eq-Decides n m)
 
-distinct_more : (names : List (List ℕ)) (name : List ℕ) → are_distinct names ≡ true → list_any (bytes_eq name) names ≡ false → are_distinct (names ++ name ∷ []) ≡ true
+pub distinct_more : (names : List (List ℕ)) (name : List ℕ) → are_distinct names ≡ true → list_any (bytes_eq name) names ≡ false → are_distinct (names ++ name ∷ []) ≡ true
 distinct_more [] name known absent = refl
 distinct_more (n ∷ names) name known absent =
     let other : bytes_eq n name ≡ false = bytes_eq-comm name n (grind arith) in

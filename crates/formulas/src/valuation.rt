@@ -19,7 +19,7 @@ pub struct Valuation {
 }
 
 impl Model for Valuation {
-    ghost use Rattle.std.specs.Prelude.{List, Bool, ◌<◌, ◌≤◌, ◌^◌, length, ◌≡◌};
+    ghost use Rattle.std.specs.Prelude.{List, Bool, ◌<◌, ◌≤◌, ◌^◌, length};
     ghost use Rattle.formulas.specs.Limits.{valuation_limit};
     ghost use Rattle.formulas.specs.Words.{word_of, number_of};
     ghost use Rattle.formulas.specs.WordLaws.{number_of_word, word_size};

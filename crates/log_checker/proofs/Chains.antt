@@ -21,10 +21,10 @@ use Rattle.clause_store.proofs.Numbered.{clause_at-get, clause_at-within}
 abbrev pub AllBelow : ℕ → List Link → Type 0
 AllBelow n links = AllByRecursion (λ (link : Link). link.number < n) links
 
-lt_true : (a b : ℕ) → nat_lt a b ≡ true → a < b
+pub lt_true : (a b : ℕ) → nat_lt a b ≡ true → a < b
 lt_true a b e = grind (arith, nat_tests)
 
-true_lt : (a b : ℕ) → a < b → nat_lt a b ≡ true
+pub true_lt : (a b : ℕ) → a < b → nat_lt a b ≡ true
 true_lt a b h = grind (arith, nat_tests)
 
 links_below : (n : ℕ) (links : List Link) → are_links_below n links ≡ true → AllBelow n links
@@ -78,7 +78,7 @@ same_refl : (ls : List Lit) → same_clause ls ls ≡ true
 same_refl [] = refl
 same_refl (l ∷ ls) = and_both (same_lit l l) (same_clause ls ls) (grind (arith, nat_tests)) (same_refl ls)
 
-same_is : (ls ms : List Lit) → same_clause ls ms ≡ true → ls ≡ ms
+pub same_is : (ls ms : List Lit) → same_clause ls ms ≡ true → ls ≡ ms
 same_is [] [] e = refl
 same_is [] (m ∷ ms) e = absurd (cc)
 same_is (l ∷ ls) [] e = absurd (cc)
@@ -157,7 +157,7 @@ verdict_below known step b = rw b refl
 
 -- Each step has one answer.
 
-chain_comes : (known : List (List Lit)) (place : ℕ) (running : List Lit) (links : List Link) (end : List Lit) → Comes known running links end → AllBelow (length known) links × (chain_from known place running links ≡ Ends end)
+pub chain_comes : (known : List (List Lit)) (place : ℕ) (running : List Lit) (links : List Link) (end : List Lit) → Comes known running links end → AllBelow (length known) links × (chain_from known place running links ≡ Ends end)
 chain_comes known place running [] end h = (tt, ap (λ (x : List Lit). Ends x) h)
 chain_comes known place running (l ∷ ls) end h =
     let r = chain_comes known (place + 1) (resolvent l.pivot running h.0) ls end h.4 in

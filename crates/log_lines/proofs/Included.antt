@@ -1,6 +1,6 @@
 -- Clauses that include others.
 use Rattle.std.proofs.Common.{◌≡◌, ℕ, zero, suc, ◌<◌, ◌≤◌, ◌-◌, length, Bool, true, false, List, [], ◌∷◌, refl, ap, sym, ◌∙◌, subst, arith, inl, inr}
-use Rattle.std.specs.Prelude.{Contains, ◌⊎◌, ◌||◌, None, Some, slice_get}
+use Rattle.std.specs.Prelude.{Contains, ◌||◌, None, Some, slice_get}
 use Rattle.std.specs.List.{list_any}
 use Rattle.std.proofs.lemmas.Bool.Decides.{nat_tests}
 use Rattle.clause_store.specs.declared.lit.Lit.{Lit}
@@ -8,13 +8,7 @@ use Rattle.clause_store.specs.Lits.{has, same_lit, rank_of, InRange}
 use Rattle.clause_store.proofs.Lits.{rank_lit}
 use Rattle.clause_store.proofs.Truths.{and_left, and_right, or_left, or_right, or_cases}
 use Rattle.log_lines.specs.Spending.{includes}
-
-pub later : {X : Type 0} (x y : X) (xs : List X) → Contains xs y → Contains (x ∷ xs) y
-later x y xs h = (suc h.0, omega (arith, h.1), h.2)
-
-pub contains_cons : {X : Type 0} (x y : X) (xs : List X) → Contains (x ∷ xs) y → (x ≡ y) ⊎ Contains xs y
-contains_cons x y xs (zero, h, e) = inl e
-contains_cons x y xs (suc k, h, e) = inr (k, omega arith, e)
+use Rattle.derivation_log.proofs.Marks.{contains_later, contains_first}
 
 same : (l m : Lit) → same_lit l m ≡ true → l ≡ m
 same l m e = rank_lit l m (let r : rank_of l ≡ rank_of m = grind (arith, nat_tests) in r)
@@ -25,7 +19,7 @@ self l m e = (let r : rank_of l ≡ rank_of m = ap rank_of (sym e) in grind (ari
 pub contains_has : (l : Lit) (ls : List Lit) → Contains ls l → has l ls ≡ true
 contains_has l [] h = absurd (omega (arith, h.1))
 contains_has l (m ∷ ls) h =
-    elim (contains_cons m l ls h) [
+    elim (contains_first m l ls h) [
       | inl e ↦ or_left (same_lit l m) (has l ls) (self l m e)
       | inr e ↦ or_right (same_lit l m) (has l ls) (contains_has l ls e)
     ]
@@ -35,7 +29,7 @@ has_contains l [] h = absurd (cc)
 has_contains l (m ∷ ls) h =
     elim (or_cases (same_lit l m) (has l ls) h) [
       | inl e ↦ (zero, omega arith, sym (same l m e))
-      | inr e ↦ later m l ls (has_contains l ls e)
+      | inr e ↦ contains_later m l ls (has_contains l ls e)
     ]
 
 pub has_within : (l : Lit) (ls : List Lit) (v : ℕ) → has l ls ≡ true → InRange v ls → l.var ≤ v
@@ -57,14 +51,14 @@ included d (m ∷ c) l i h =
 pub any_has : {X : Type 0} (p : X → Bool) (xs : List X) (x : X) → Contains xs x → p x ≡ true → list_any p xs ≡ true
 any_has p [] x c h = absurd (omega (arith, c.1))
 any_has p (y ∷ xs) x c h =
-    elim (contains_cons y x xs c) [
+    elim (contains_first y x xs c) [
       | inl e ↦ or_left (p y) (list_any p xs) (ap p e ∙ h)
       | inr e ↦ or_right (p y) (list_any p xs) (any_has p xs x e h)
     ]
 
 pub none_has : {X : Type 0} (p : X → Bool) (xs : List X) → ((x : X) → Contains xs x → p x ≡ true → ⊥) → list_any p xs ≡ false
 none_has p [] h = refl
-none_has p (y ∷ xs) h = first_none (p y) (list_any p xs) (λ e. h y (zero, omega arith, refl) e) (none_has p xs (λ x c e. h x (later y x xs c) e))
+none_has p (y ∷ xs) h = first_none (p y) (list_any p xs) (λ e. h y (zero, omega arith, refl) e) (none_has p xs (λ x c e. h x (contains_later y x xs c) e))
   where
     first_none : (a b : Bool) → (a ≡ true → ⊥) → b ≡ false → (a || b) ≡ false
     first_none true b n e = absurd (n refl)

@@ -5,8 +5,7 @@ use Rattle.std.specs.List.{list_all, AllByRecursion}
 use Rattle.report_words.specs.Numbers.{IsLiteral}
 use Rattle.std.proofs.lemmas.Bool.Decides.{nat_tests}
 use Rattle.clause_store.specs.declared.lit.Lit.{Lit}
-use Rattle.clause_store.specs.Lits.{InRange, rank_of, same_lit}
-use Rattle.clause_store.proofs.Lits.{rank_lit}
+use Rattle.clause_store.specs.Lits.{InRange}
 use Rattle.clause_store.proofs.Truths.{and_left, and_right}
 use Rattle.clause_store.specs.Clauses.{Clauses}
 use Rattle.derivation_log.specs.declared.step.Link.{Link}
@@ -16,10 +15,11 @@ use Rattle.log_checker.specs.Verdicts.{verdict_of}
 use Rattle.log_checker.specs.declared.checking.StepStop.{StepStop}
 use Rattle.log_checker.specs.declared.checking.StepStop.TheVariants.{NoSuchClause, OtherClause}
 use Rattle.log_checker.specs.Verdicts.{Outcome, Ends, Sticks, chain_from, are_below, end_verdict, same_clause}
-use Rattle.log_checker.proofs.Chains.{answer_follows}
+use Rattle.log_checker.proofs.Chains.{answer_follows, same_is}
 use Rattle.clause_store.specs.Clauses.{clause_at}
 use Rattle.derivation_log.specs.Logs.{Follows}
 use Rattle.log_lines.specs.Taking.{narrow, narrow_link, narrow_step, is_step, after_step}
+use Rattle.log_lines.proofs.News.{and_not}
 
 narrow_lits : (ls : List Lit) → map narrow (map widen ls) ≡ ls
 narrow_lits [] = refl
@@ -47,10 +47,6 @@ last_false true true false d h = refl
 last_false true false c d h = refl
 last_false false b c d h = refl
 
-first_false : (a b : Bool) → a ≡ false → (a && b) ≡ false
-first_false true b e = absurd (cc)
-first_false false b e = refl
-
 and_last : (a b : Bool) → b ≡ false → (a && b) ≡ false
 and_last true b e = e
 and_last false b e = refl
@@ -60,7 +56,7 @@ module _ (vars : ℕ) (known : List (List Lit)) (n : ℕ) (s : Step) where
   out_of_range e =
       step_is vars known n s
       ∙ last_false (n == length known) (not (has_big (step_line n s))) (rises (map widen s.clause)) (are_in vars s.clause && is_none (verdict_of known s))
-      (first_false (are_in vars s.clause) (is_none (verdict_of known s)) e)
+      (and_not (are_in vars s.clause) (is_none (verdict_of known s)) e)
 
   pub stopped_by : (stop : StepStop) → verdict_of known s ≡ Some stop → is_step vars known (step_line n s) ≡ false
   stopped_by stop e =
@@ -72,7 +68,7 @@ module _ (vars : ℕ) (known : List (List Lit)) (n : ℕ) (s : Step) where
       is_step vars known (step_line n s) ≡ true
   right a b c d e = step_is vars known n s ∙ rw (a, b, c, d, e) refl
 
-le_is : (a b : ℕ) → nat_le a b ≡ true → a ≤ b
+pub le_is : (a b : ℕ) → nat_le a b ≡ true → a ≤ b
 le_is a b e = grind (arith, nat_tests)
 
 pub within_range : (v : ℕ) (ls : List Lit) → AllByRecursion IsLiteral (map widen ls) → are_in v ls ≡ true → InRange v ls
@@ -85,19 +81,8 @@ within_range v (l ∷ ls) h e =
 pub after_is : (known : Clauses) (n : ℕ) (s : Step) → after_step known (step_line n s) ≡ record known { list = known.list ++ s.clause ∷ [] }
 after_is known n s = ap (λ (t : Step). record known { list = known.list ++ t.clause ∷ [] }) (narrow_is n s)
 
--- clauses that are the same by test are one
-same_lits : (a b : List Lit) → same_clause a b ≡ true → a ≡ b
-same_lits [] [] e = refl
-same_lits [] (m ∷ b) e = absurd (cc)
-same_lits (l ∷ a) [] e = absurd (cc)
-same_lits (l ∷ a) (m ∷ b) e =
-    let r : rank_of l ≡ rank_of m = (let f = and_left (same_lit l m) (same_clause a b) e in grind (arith, nat_tests)) in
-    let one : l ≡ m = rank_lit l m r in
-    let rest : a ≡ b = same_lits a b (and_right (same_lit l m) (same_clause a b) e) in
-    cc
-
 same_by : (a b : List Lit) (t : Bool) → same_clause a b ≡ t → cond t None (Some OtherClause) ≡ None → a ≡ b
-same_by a b true e h = same_lits a b e
+same_by a b true e h = same_is a b e
 same_by a b false e h = absurd (cc)
 
 -- a step without a verdict against it follows

@@ -6,9 +6,11 @@ use Rattle.std.proofs.lemmas.Grind.{common_steps}
 use Rattle.std.proofs.lemmas.List.{length-drop}
 use Rattle.clause_store.specs.declared.lit.Lit.{Lit}
 use Rattle.clause_store.specs.Clauses.{clause_at}
+use Rattle.clause_store.proofs.Truths.{and_left}
 use Rattle.derivation_log.specs.declared.step.StepKind.{StepKind}
 use Rattle.derivation_log.specs.Logs.{is_learned}
 use Rattle.log_lines.specs.Spending.{Noted, noted_of, includes, learned_clauses, is_new_at, are_new, earlier}
+use Rattle.report_words.proofs.Numerals.{some_same}
 
 pub and_is : (a b : Bool) → a ≡ true → (a && b) ≡ b
 and_is true b e = refl
@@ -18,13 +20,6 @@ pub and_not : (a b : Bool) → a ≡ false → (a && b) ≡ false
 and_not true b e = absurd (cc)
 and_not false b e = refl
 
-and_first : (a b : Bool) → (a && b) ≡ true → a ≡ true
-and_first true b e = refl
-and_first false b e = e
-
-some_is : {A : Type 0} {x y : A} → Some x ≡ Some y → x ≡ y
-some_is e = cc
-
 pub get_drop : {A : Type 0} (xs : List A) (m k : ℕ) → slice_get (drop m xs) k ≡ slice_get xs (m + k)
 get_drop xs zero k = let e : zero + k ≡ k = omega arith in ap (slice_get xs) (sym e)
 get_drop [] (suc m) k = grind (arith, common_steps)
@@ -33,12 +28,12 @@ get_drop (x ∷ xs) (suc m) k = let e : suc m + k ≡ suc (m + k) = omega arith 
 -- one more element
 pub more_of : {A : Type 0} (xs : List A) (k : ℕ) (x : A) → slice_get xs k ≡ Some x → take (k + 1) xs ≡ take k xs ++ x ∷ []
 more_of [] k x e = absurd (cc)
-more_of (y ∷ xs) zero x e = ap (λ z. z ∷ []) (some_is e)
+more_of (y ∷ xs) zero x e = ap (λ z. z ∷ []) (some_same e)
 more_of (y ∷ xs) (suc k) x e = let n : suc k + 1 ≡ suc (k + 1) = omega arith in ap (λ i. take i (y ∷ xs)) n ∙ ap (λ zs. y ∷ zs) (more_of xs k x e)
 
 pub rest_of : {A : Type 0} (xs : List A) (k : ℕ) (x : A) → slice_get xs k ≡ Some x → drop k xs ≡ x ∷ drop (k + 1) xs
 rest_of [] k x e = absurd (cc)
-rest_of (y ∷ xs) zero x e = ap (λ z. z ∷ xs) (some_is e)
+rest_of (y ∷ xs) zero x e = ap (λ z. z ∷ xs) (some_same e)
 rest_of (y ∷ xs) (suc k) x e = let n : suc k + 1 ≡ suc (k + 1) = omega arith in rest_of xs k x e ∙ ap (λ i. x ∷ drop i (y ∷ xs)) (sym n)
 
 -- the clauses of learned steps
@@ -58,13 +53,13 @@ learned-append (n ∷ ns) ms = front_of n.learned n.clause (learned_clauses ns) 
 pub noted_kind : (kinds : List StepKind) (cs : List (List Lit)) (k : ℕ) (s : Noted) (kind : StepKind) → slice_get (noted_of kinds cs) k ≡ Some s → slice_get kinds k ≡ Some kind → s.learned ≡ is_learned kind
 noted_kind [] cs k s kind e f = absurd (cc)
 noted_kind (x ∷ kinds) [] k s kind e f = absurd (cc)
-noted_kind (x ∷ kinds) (d ∷ cs) zero s kind e f = ap (λ (n : Noted). n.learned) (sym (some_is e)) ∙ ap is_learned (some_is f)
+noted_kind (x ∷ kinds) (d ∷ cs) zero s kind e f = ap (λ (n : Noted). n.learned) (sym (some_same e)) ∙ ap is_learned (some_same f)
 noted_kind (x ∷ kinds) (d ∷ cs) (suc k) s kind e f = noted_kind kinds cs k s kind e f
 
 pub noted_clause : (kinds : List StepKind) (cs : List (List Lit)) (k : ℕ) (s : Noted) (c : List Lit) → slice_get (noted_of kinds cs) k ≡ Some s → slice_get cs k ≡ Some c → s.clause ≡ c
 noted_clause [] cs k s c e f = absurd (cc)
 noted_clause (x ∷ kinds) [] k s c e f = absurd (cc)
-noted_clause (x ∷ kinds) (d ∷ cs) zero s c e f = ap (λ (n : Noted). n.clause) (sym (some_is e)) ∙ some_is f
+noted_clause (x ∷ kinds) (d ∷ cs) zero s c e f = ap (λ (n : Noted). n.clause) (sym (some_same e)) ∙ some_same f
 noted_clause (x ∷ kinds) (d ∷ cs) (suc k) s c e f = noted_clause kinds cs k s c e f
 
 pub some_at : {A : Type 0} (xs : List A) (k : ℕ) → k < length xs → (x : A) × (slice_get xs k ≡ Some x)
@@ -104,7 +99,7 @@ new_cut main ns k s e = ap (are_new (main ++ learned_clauses (take k ns))) (rest
 
 pub new_step : (main : List (List Lit)) (ns : List Noted) (k : ℕ) (s : Noted) → slice_get ns k ≡ Some s → is_new_at main ns k s ≡ true → new_from main ns (k + 1) ≡ new_from main ns k
 new_step main ns k s e h =
-    let learned : s.learned ≡ true = and_first s.learned (not (list_any (includes s.clause) (main ++ learned_clauses (take k ns)))) h in
+    let learned : s.learned ≡ true = and_left s.learned (not (list_any (includes s.clause) (main ++ learned_clauses (take k ns)))) h in
     let before : (main ++ learned_clauses (take k ns)) ++ s.clause ∷ [] ≡ main ++ learned_clauses (take (k + 1) ns) =
     append_assoc main (learned_clauses (take k ns)) (s.clause ∷ []) ∙ ap (λ cs. main ++ cs) (sym (learned_grown ns k s e learned)) in
     ap (λ cs. are_new cs (drop (k + 1) ns)) (sym before)
@@ -114,7 +109,7 @@ new_step main ns k s e h =
 pub new_stop : (main : List (List Lit)) (ns : List Noted) (k : ℕ) (s : Noted) → slice_get ns k ≡ Some s → is_new_at main ns k s ≡ false → new_from main ns k ≡ false
 new_stop main ns k s e h = new_cut main ns k s e ∙ and_not (is_new_at main ns k s) (are_new ((main ++ learned_clauses (take k ns)) ++ s.clause ∷ []) (drop (k + 1) ns)) h
 
-drop_past : {A : Type 0} (xs : List A) (k : ℕ) → length xs ≤ k → drop k xs ≡ []
+pub drop_past : {A : Type 0} (xs : List A) (k : ℕ) → length xs ≤ k → drop k xs ≡ []
 drop_past xs k h = grind (arith, common_steps)
 
 pub new_end : (main : List (List Lit)) (ns : List Noted) (k : ℕ) → length ns ≤ k → new_from main ns k ≡ true
@@ -156,7 +151,7 @@ pub new_is : (kinds : List StepKind) (list : List (List Lit)) (main k : ℕ) (ki
 new_is kinds list main k kind b s size lt is learned any at =
     let ns = noted_of kinds (drop main list) in
     let t = step_at kinds list main k kind size lt is in
-    let one : t.0 ≡ s = some_is (sym t.1 ∙ at) in
+    let one : t.0 ≡ s = some_same (sym t.1 ∙ at) in
     let own : s.learned ≡ true = ap (λ (n : Noted). n.learned) (sym one) ∙ (t.2 ∙ learned) in
     let value : s.clause ≡ clause_at list (main + k) = ap (λ (n : Noted). n.clause) (sym one) ∙ t.3 in
     and_is s.learned (not (list_any (includes s.clause) (earlier main kinds list k))) own

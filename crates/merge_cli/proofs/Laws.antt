@@ -1,6 +1,6 @@
 -- The rows of the table of answers are apart.
 use Rattle.std.proofs.Common.{◌≡◌, ◌≢◌, ℕ, List, [], ◌∷◌, length, arith, subst, sym, ap, refl, ◌∙◌, append-nil}
-use Rattle.std.specs.Prelude.{Option, slice_index, decimal, codes, [], ◌∷◌}
+use Rattle.std.specs.Prelude.{Option, slice_index, decimal, codes}
 use Rattle.std.proofs.lemmas.Fmt.{decimal_injective}
 use Rattle.edge.specs.Streams.{Exceeds}
 use Rattle.merge_model.specs.declared.problem.Problem.{Problem}

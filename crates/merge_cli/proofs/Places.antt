@@ -9,6 +9,7 @@ use Rattle.formula_text.specs.ValuationWords.{truth_digit, valuation_word}
 use Rattle.merge_cli.specs.declared.place.Place.{Place}
 use Rattle.merge_cli.specs.declared.place.Place.TheVariants.{Start, Above, TooLong}
 use Rattle.merge_cli.specs.Places.{IsPlace, IsTruthDigit, is_one}
+use Rattle.report_lines.proofs.OneItem.{same_valuation}
 
 digit_one : (d : ℕ) → IsTruthDigit d → truth_digit (is_one d) ≡ d
 digit_one d (inl zero_digit) = rw zero_digit refl
@@ -26,14 +27,6 @@ pub are_digits : (v : List Bool) → All IsTruthDigit (valuation_word v)
 are_digits [] = All-nil IsTruthDigit
 are_digits (true ∷ v) = All-cons IsTruthDigit 49 (valuation_word v) (inr refl) (are_digits v)
 are_digits (false ∷ v) = All-cons IsTruthDigit 48 (valuation_word v) (inl refl) (are_digits v)
-
-read_back : (v : List Bool) → map is_one (valuation_word v) ≡ v
-read_back [] = refl
-read_back (true ∷ v) = ap (λ (w : List Bool). true ∷ w) (read_back v)
-read_back (false ∷ v) = ap (λ (w : List Bool). false ∷ w) (read_back v)
-
-pub same_valuation : (v w : List Bool) → valuation_word v ≡ valuation_word w → v ≡ w
-same_valuation v w e = sym (read_back v) ∙ ap (λ (ds : List ℕ). map is_one ds) e ∙ read_back w
 
 -- what one more digit says
 pub one_more_digit : (ds : List ℕ) (v : List Bool) (k : ℕ) (d : ℕ) → k < length ds → k < length v → get_or ds k 0 ≡ d → take k v ≡ map is_one (take k ds)

@@ -6,7 +6,7 @@ pub const ANSWERED: u8 = 0;
 /// The text was refused.
 pub const REFUSED: u8 = 1;
 
-/// The words are none of the forms.
+/// The words are those of no command.
 pub const REFUSED_WORDS: u8 = 2;
 
 /// The search gave up.

@@ -5,6 +5,7 @@ use Rattle.std.specs.List.{AllZip}
 use Rattle.std.proofs.lemmas.Bool.Decides.{nat_tests, leb_tells}
 use Rattle.std.proofs.lemmas.List.{length-map}
 use Rattle.std.proofs.lemmas.List.Elements.{All-nil, All-cons, All-head, All-tail}
+use Rattle.std.proofs.lemmas.Bool.{not-true}
 use Rattle.clause_store.specs.declared.lit.Lit.{Lit}
 use Rattle.clause_store.specs.Lits.{positive_lit, negative_lit}
 use Rattle.clause_store.specs.Truth.{lit_true}
@@ -33,10 +34,6 @@ true_front b (x ∷ xs) ys h = let s = true_front b xs ys h.1 in ((h.0, s.0), s.
 true_join : (b : ℕ → Bool) (xs ys : List Lit) → AllTrue b xs → AllTrue b ys → AllTrue b (xs ++ ys)
 true_join b [] ys h k = k
 true_join b (x ∷ xs) ys h k = (h.0, true_join b xs ys h.1 k)
-
-not_true : (x : Bool) → not x ≡ true → x ≡ false
-not_true true h = cc
-not_true false h = refl
 
 sign_says : (x t : Bool) → (if x then t else not t) ≡ true → t ≡ x
 sign_says true t h = h
@@ -85,7 +82,7 @@ false_below k m h = grind (arith, nat_tests)
 says_by : (b : ℕ → Bool) (xs : List ℕ) (x : ℕ) (t : Bool) → nat_lt x (length xs) ≡ t → IsUnary b xs → AllTrue b (if t then negative_lit (slice_index xs x) ∷ [] else []) → count_of b xs ≤ x
 says_by b xs x true e u h =
     let lt : x < length xs = grind (arith, nat_tests) in
-    below_false x (count_of b xs) (sym (u x lt) ∙ not_true (b (slice_index xs x)) h.0)
+    below_false x (count_of b xs) (sym (u x lt) ∙ not-true (b (slice_index xs x)) h.0)
 says_by b xs x false e u h = let le = below_false x (length xs) e in omega (arith, count_le b xs)
 
 at_most_says : (b : ℕ → Bool) (xs : List ℕ) (x : ℕ) → IsUnary b xs → AllTrue b (at_most_lits xs x) → count_of b xs ≤ x
@@ -120,7 +117,7 @@ than_less k m lo h = grind (arith, nat_tests)
 better_says : (b : ℕ → Bool) (j : ℕ) (ls : List (List ℕ)) (values : List ℕ) → AllUnary b ls → FitLevels values ls → j < length ls → 1 ≤ slice_index values j → AllTrue b (better_lits j ls values) → IsBetterAt j (counts_of b ls) values
 better_says b j [] values u f lt lo h = absurd (omega arith)
 better_says b j (l ∷ ls) [] u f lt lo h = absurd f
-better_says b zero (l ∷ ls) (x ∷ values) u f lt lo h = less_than x (count_of b l) lo (sym (u.0 (x - 1) (let z = f.0 in omega arith)) ∙ not_true (b (slice_index l (x - 1))) h.0)
+better_says b zero (l ∷ ls) (x ∷ values) u f lt lo h = less_than x (count_of b l) lo (sym (u.0 (x - 1) (let z = f.0 in omega arith)) ∙ not-true (b (slice_index l (x - 1))) h.0)
 better_says b (suc j) (l ∷ ls) (x ∷ values) u f lt lo h =
     let s = true_front b (at_most_lits l x) (better_lits j ls values) h in
     (at_most_says b l x u.0 s.0, better_says b j ls values u.1 f.1 (omega arith) lo s.1)
@@ -261,7 +258,7 @@ broken_of dist top values_of p asks main m b r (NoNearer i v k) proper a =
     let is_v : truth_of b main.shared ≡ v =
     let h : AllTrue b (signed (fresh_lits 0 n) v) = subst (λ ls. AllTrue b (signed ls v)) m.shared_are s.0 in
     ap (truth_of b) m.shared_are ∙ sym (take_whole (truth_of b (fresh_lits 0 n)) (length v) (truths_size b (fresh_lits 0 n) ∙ length-fresh_lits 0 n ∙ sym proper.1)) ∙ signed_says b 0 n v (omega (arith, proper.1)) h in
-    let small = less_than k (count_of b c.away) proper.2 (sym (unary_at b main.copies i (m.counters_in_order b r) proper.0 (k - 1) (let z = proper.3 in omega arith)) ∙ not_true (b (slice_index c.away (k - 1))) s.1.1.0) in
+    let small = less_than k (count_of b c.away) proper.2 (sym (unary_at b main.copies i (m.counters_in_order b r) proper.0 (k - 1) (let z = proper.3 in omega arith)) ∙ not-true (b (slice_index c.away (k - 1))) s.1.1.0) in
     let far : count_of b c.away ≡ dist v (truth_of b c.own) = away_at b (dist (truth_of b main.shared)) main.copies i (m.counters_are b r) proper.0 ∙ ap (λ u. dist u (truth_of b c.own)) is_v in
     let own : own_at (owns_of b main.copies) i ≡ truth_of b c.own = owns_at b main.copies i in
     let near : dist v (own_at (owns_of b main.copies) i) ≡ dist v (truth_of b c.own) = ap (dist v) own in
@@ -274,7 +271,7 @@ broken_of dist top values_of p asks main m b r (NoBreaker q values) proper a =
     let s = true_front b (all_roots main) (each_at_most main.levels values ++ negative_lit (slice_index main.asks q) ∷ []) a in
     let t = true_front b (each_at_most main.levels values) (negative_lit (slice_index main.asks q) ∷ []) s.1 in (
       candidate_of dist top values_of p asks main m b r s.0,
-      sym (ask_is b (truth_of b main.shared) main.asks asks q (m.asks_are b r) proper.0) ∙ not_true (b (slice_index main.asks q)) t.1.0,
+      sym (ask_is b (truth_of b main.shared) main.asks asks q (m.asks_are b r) proper.0) ∙ not-true (b (slice_index main.asks q)) t.1.0,
       subst (λ us. AreUpTo us values) (m.levels_are b r) (each_says b main.levels values (m.levels_in_order b r) proper.1 t.0),
     )
 broken_of dist top values_of p asks main m b r (NoModelWith values prefix) proper a =

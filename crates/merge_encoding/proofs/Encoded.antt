@@ -96,7 +96,7 @@ copied due problem xs given agents first old now roots copies s h same agents_ar
       list = list_eq ∙ ap (λ (x : CopiesDue). old.list ++ map sorted_clause x.clauses) e ∙ ap (λ x. x ++ map sorted_clause (copied_of due (profile_of problem) problem.asks).clauses) h.list ∙ sym (stored-append front (copied_of due (profile_of problem) problem.asks).clauses);
     }
 
-aways_map : (cs : List CopyDue) → map (λ (c : AgentCopy). c.away) (map copy_of cs) ≡ aways_of cs
+pub aways_map : (cs : List CopyDue) → map (λ (c : AgentCopy). c.away) (map copy_of cs) ≡ aways_of cs
 aways_map [] = refl
 aways_map (c ∷ cs) = ap (λ x. c.away ∷ x) (aways_map cs)
 

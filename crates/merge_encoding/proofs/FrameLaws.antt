@@ -1,11 +1,11 @@
 -- The frame of the main clauses is over their variables, and its literals are positive and on distinct variables.
-use Rattle.std.proofs.Common.{◌≡◌, ℕ, suc, ◌-◌, ◌<◌, ◌≤◌, inl, inr, Bool, true, List, [], ◌∷◌, ◌++◌, length, map, refl, sym, ap, ◌∙◌, arith, All, length-append}
+use Rattle.std.proofs.Common.{◌≡◌, ℕ, ◌-◌, ◌<◌, ◌≤◌, inl, inr, Bool, true, List, [], ◌∷◌, ◌++◌, length, map, refl, sym, ap, ◌∙◌, arith, All, length-append}
 use Rattle.std.specs.Prelude.{slice_index}
 use Rattle.std.specs.List.{AllByRecursion, concat}
 use Rattle.std.proofs.lemmas.Bool.Decides.{leb_tells}
 use Rattle.std.proofs.lemmas.List.Elements.{All-cons, All-nil, All-append, All-map}
 use Rattle.clause_store.specs.declared.lit.Lit.{Lit}
-use Rattle.clause_store.specs.Lits.{positive_lit, InRange}
+use Rattle.clause_store.specs.Lits.{positive_lit}
 use Rattle.clause_store.proofs.Truths.{within_more}
 use Rattle.clause_store.proofs.Once.{times_in, vars_of, IsOnce, times_append, pairs_apart}
 use Rattle.formulas.specs.declared.formula.Formula.{Formula}
@@ -15,6 +15,7 @@ use Rattle.clause_store.specs.Fresh.{fresh_vars}
 use Rattle.totalizer.proofs.Distinct.{ShareNone, place_left, place_right, fresh_append, distinct_append, once_of}
 use Rattle.totalizer.proofs.FreshVars.{fresh_vars_are}
 use Rattle.totalizer.proofs.Law.{more_vars}
+use Rattle.totalizer.proofs.Disjunctions.{pos_within}
 use Rattle.merge_model.specs.Merging.{Profile}
 use Rattle.agent_copies.specs.declared.copy.AgentCopy.{AgentCopy}
 use Rattle.agent_copies.specs.Copy.{CopyDue}
@@ -26,6 +27,7 @@ use Rattle.merge_encoding.proofs.Defined.{definitions_fresh}
 use Rattle.merge_encoding.proofs.Copied.{roots_of}
 use Rattle.merge_encoding.proofs.Counts.{times_positive, level_times, distance_times}
 use Rattle.merge_encoding.proofs.OneAssignment.{AreLaws, shared_of, constraint_of, asked_of, copied_of, leveled_of, shared_long, shared_within, constraint_room, asked_room, copies_made, levels_made}
+use Rattle.merge_encoding.proofs.Encoded.{aways_map}
 
 -- more variables
 copies_more_over : (v w n : ℕ) (cs : List AgentCopy) → v ≤ w → AllByRecursion (IsCopyOver v n) cs → AllByRecursion (IsCopyOver w n) cs
@@ -36,10 +38,6 @@ copies_more_over v w n (c ∷ cs) le h =
     let low = r.0 in
     let high = r.1 in
     (record { size = o.size; own = within_more v w c.own le o.own; root = (low, omega arith); away = more_vars v w c.away le o.away }, copies_more_over v w n cs le h.1)
-
-positives_in : (v : ℕ) (xs : List ℕ) → AreVarsWithin v xs → InRange v (map positive_lit xs)
-positives_in v [] h = tt
-positives_in v (x ∷ xs) h = (h 0 (omega arith), positives_in v xs (λ k lt. h (suc k) (omega arith)))
 
 -- positive literals
 abbrev ArePositive : List Lit → Type 0
@@ -59,10 +57,6 @@ positive_join ls ms h k = All-append (λ (l : Lit). l.positive ≡ true) ls ms h
 root_vars : (cs : List CopyDue) → vars_of (map (λ (c : AgentCopy). c.root) (map copy_of cs)) ≡ roots_of cs
 root_vars [] = refl
 root_vars (c ∷ cs) = ap (λ x. c.root ∷ x) (root_vars cs)
-
-aways_same : (cs : List CopyDue) → map (λ (c : AgentCopy). c.away) (map copy_of cs) ≡ aways_of cs
-aways_same [] = refl
-aways_same (c ∷ cs) = ap (λ x. c.away ∷ x) (aways_same cs)
 
 share_none : (v w : ℕ) (xs roots outputs : List ℕ) → ((k : ℕ) → k < length xs → slice_index xs k ≤ v) → AreFresh v w outputs → ShareNone roots outputs → ShareNone (xs ++ roots) outputs
 share_none v w xs roots outputs low f apart j k hj hk e =
@@ -143,7 +137,7 @@ module _ (dist : List Bool → List Bool → ℕ) (most : ℕ → ℕ) (due : Du
       let n = p.atoms in
       let k = copied_of due p asks in
       let roots = ap (times_in z) (root_vars k.copies) in
-      let outputs = ap (λ xs. times_in z (concat xs)) (aways_same k.copies) in
+      let outputs = ap (λ xs. times_in z (concat xs)) (aways_map k.copies) in
       omega (
         arith,
         distance_vars z,
@@ -196,7 +190,7 @@ module _ (dist : List Bool → List Bool → ℕ) (most : ℕ → ℕ) (due : Du
         few = omega (arith, ln, lim.few_atoms);
         shared = shared_within p l.vars (omega (arith, is, up));
         constraint = (omega (arith, is, some), omega arith);
-        asks = positives_in l.vars a.roots (λ i lt. let x = f.above i lt in let y = f.within i lt in (omega arith, omega arith));
+        asks = pos_within l.vars a.roots (λ i lt. let x = f.above i lt in let y = f.within i lt in (omega arith, omega arith));
         copies = copies_more_over k.vars l.vars (length (shared_of p)) (map copy_of k.copies) h kd.over;
         levels = ld.within;
       }

@@ -11,3 +11,4 @@ pub mod Limits
 pub mod Steps
 pub mod Encoded
 pub mod Signs
+pub mod ValueOrders

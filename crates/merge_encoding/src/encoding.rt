@@ -158,7 +158,7 @@ pub fn encode<D: Counted, A: Levelled>(
     ensures over { IfOk result (λ main. IsFrameOver main.clauses.vars main.frame) }
     ensures distinct { IfOk result (λ main. FrameIsDistinct main.frame) }
 
-    // what the clauses mean
+    // What the clauses mean.
     ensures means { IsMain (D.dist distance.now) (D.most distance.now (length problem.now.atoms))
         (A.levels_of aggregator.now) (profile_of problem.now) problem.now.asks
         (due_for (D.due distance.now) (A.levels_due aggregator.now) problem.now) }

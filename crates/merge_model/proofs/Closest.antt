@@ -76,7 +76,7 @@ module _ (dist : List Bool → List Bool → ℕ) (rank : List ℕ → List ℕ)
       subst (λ (u : List ℕ). IsNoWorse rank u (get_or fulls best [])) (sym (full_at k less ∙ ap (full_of dist p) is))
       (subst (λ (u : List ℕ). IsNoWorse rank (full_of dist p v) u) (sym (full_at best best_within)) (h.best (get_or candidates best []) (model_at best best_within)))
 
-  unless_false : (b : Bool) → (b ≡ false → ⊥) → b ≡ true
+  pub unless_false : (b : Bool) → (b ≡ false → ⊥) → b ≡ true
   unless_false true h = refl
   unless_false false h = absurd (h refl)
 

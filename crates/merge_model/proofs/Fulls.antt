@@ -45,7 +45,7 @@ repeated_length (agent ∷ agents) (u ∷ us) same =
       sum_by-cons (λ agent. agent.times) agent agents,
     )
 
-some_times : (agents : List Agent) → 1 ≤ length agents → All (λ agent. 1 ≤ agent.times) agents → 1 ≤ sum_by (λ agent. agent.times) agents
+pub some_times : (agents : List Agent) → 1 ≤ length agents → All (λ agent. 1 ≤ agent.times) agents → 1 ≤ sum_by (λ agent. agent.times) agents
 some_times [] some counts = absurd (omega arith)
 some_times (agent ∷ agents) some counts = omega (arith, sum_by-cons (λ agent. agent.times) agent agents, All-head (λ agent. 1 ≤ agent.times) agent agents counts)
 

@@ -1,15 +1,12 @@
 -- The nearest model of a list is at the least distance.
-use Rattle.std.proofs.Common.{◌≡◌, ℕ, ◌≤◌, ◌<◌, Bool, true, false, List, [], ◌∷◌, length, map, nat_lt, if◌then◌else◌, refl, ap, sym, subst, ◌∙◌, arith, ◌⊎◌, inl, inr, All}
+use Rattle.std.proofs.Common.{◌≡◌, ℕ, ◌≤◌, Bool, true, false, List, [], ◌∷◌, length, map, nat_lt, if◌then◌else◌, refl, ap, sym, subst, ◌∙◌, arith, inl, inr, All}
 use Rattle.std.specs.List.{AllZip}
-use Rattle.std.proofs.lemmas.Bool.Decides.{nat_tests}
 use Rattle.std.proofs.lemmas.List.Elements.{All-cons, All-nil, All-head, All-tail, All-map, All-weaker}
 use Rattle.formulas.specs.declared.formula.Formula.{Formula}
 use Rattle.merge_model.specs.Merging.{IsModel, HasModel, models_of, least_of, away, vector_of}
 use Rattle.merge_model.specs.Plain.{IsOver, nearest_from, nearest_of, distances_of}
 use Rattle.merge_model.proofs.Among.{Among, least_le, among_map, all_among, among_all, model_among, among_model}
-
-split_lt : (x y : ℕ) → ((x < y) × (nat_lt x y ≡ true)) ⊎ ((y ≤ x) × (nat_lt x y ≡ false))
-split_lt x y = grind (arith, nat_tests)
+use Rattle.ranks.proofs.Walks.{split_lt}
 
 -- one more number that is not below the first changes no least number
 skip_second : (k l : ℕ) (rest : List ℕ) → k ≤ l → least_of (k ∷ l ∷ rest) ≡ least_of (k ∷ rest)

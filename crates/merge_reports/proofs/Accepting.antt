@@ -15,7 +15,7 @@ use Rattle.merge_model.specs.declared.problem.Problem.{Problem}
 use Rattle.merge_model.specs.Answers.{profile_of, IsShown, IsVerdict, IsRightMerge, IsNamedEntry, NamesModels}
 use Rattle.merge_model.specs.Merging.{Profile, IsModel, IsClosest, away, vector_of, repeated, full_of}
 use Rattle.merge_encoding.specs.Assumptions.{assumed}
-use Rattle.report_lines.proofs.Orders.{one_list}
+use Rattle.merge_encoding.proofs.ValueOrders.{one_list}
 use Rattle.report_lines.proofs.Witnesses.{full_long}
 use Rattle.distance_search.specs.Setting.{IsOver}
 use Rattle.distance_search.specs.Laws.{Laws}

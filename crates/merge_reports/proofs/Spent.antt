@@ -10,6 +10,7 @@ use Rattle.clause_store.specs.declared.lit.Lit.{Lit}
 use Rattle.clause_store.specs.Lits.{has, same_lit, rank_of, Includes}
 use Rattle.clause_store.proofs.Lits.{rank_lit}
 use Rattle.clause_store.proofs.Truths.{or_cases}
+use Rattle.report_words.proofs.Numerals.{both_true}
 use Rattle.derivation_log.specs.declared.step.Step.{Step}
 use Rattle.derivation_log.specs.Logs.{Log, is_learned, learned_of, IsNew}
 use Rattle.cdcl_core.specs.Replies.{AllLearned}
@@ -17,14 +18,10 @@ use Rattle.log_lines.specs.Spending.{includes, learned_clauses, are_new, ends_ne
 use Rattle.report_lines.specs.Parts.{noted_step}
 use Rattle.merge_reports.specs.Found.{HasSpent}
 
-and_both : (a b : Bool) → (a && b) ≡ true → (a ≡ true) × (b ≡ true)
-and_both true b e = (refl, e)
-and_both false b e = absurd (cc)
-
 includes_means : (d c : List Lit) → includes d c ≡ true → Includes d c
 includes_means d [] e l h = absurd (cc)
 includes_means d (m ∷ ms) e l h =
-    let both = and_both (has m d) (includes d ms) e in
+    let both = both_true (has m d) (includes d ms) e in
     elim (or_cases (same_lit l m) (has l ms) h) [
       | inl s ↦ (let r : rank_of l ≡ rank_of m = grind (arith, nat_tests) in ap (λ (x : Lit). has x d) (rank_lit l m r) ∙ both.0)
       | inr s ↦ includes_means d ms both.1 l s

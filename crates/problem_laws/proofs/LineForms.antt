@@ -9,17 +9,12 @@ use Rattle.formulas.specs.Limits.{times_limit}
 use Rattle.line_tokens.specs.Bytes.{starts_word}
 use Rattle.line_tokens.specs.Lexemes.{word, lexemes_of}
 use Rattle.line_tokens.proofs.Words.{if_true}
-use Rattle.formula_grammar.proofs.WordTokens.{IsWord, token_of_word}
+use Rattle.formula_grammar.proofs.WordTokens.{IsWord, token_of_word, plain_word}
 use Rattle.problem_lines.specs.Forms.{declaration, condition, belief, query, unknown, form_of, atoms_form, is_name_token, words_of}
 use Rattle.problem_lines.specs.Numerals.{is_numeral, value_after}
 use Rattle.formula_text.specs.CanonicalText.{formula_text}
 use Rattle.merge_model.specs.declared.agent.Agent.{Agent}
 use Rattle.profile_text.specs.ProblemText.{agent_line, atoms_line, spaced_names}
-
--- a name is a word
-name_word : (name : List ℕ) → is_plain_name name ≡ true → IsWord name
-name_word [] h = absurd (grind arith)
-name_word (b ∷ name) h = record { some = λ e. absurd (grind (arith, e)); all = (let all : list_all is_word_byte (b ∷ name) ≡ true = grind arith in all) }
 
 pub plain : (name : List ℕ) → is_name name ≡ true → is_plain_name name ≡ true
 plain name h = grind arith
@@ -38,7 +33,7 @@ spaced_stops (name ∷ names) = refl
 names_tokens : (names : List (List ℕ)) → list_all is_name names ≡ true → lexemes_of (spaced_names names) ≡ map word names
 names_tokens [] h = refl
 names_tokens (name ∷ names) h =
-    token_of_word name (spaced_names names) (name_word name (plain name (grind arith))) (spaced_stops names)
+    token_of_word name (spaced_names names) (plain_word name (plain name (grind arith))) (spaced_stops names)
     ∙ ap (λ ts. word name ∷ ts) (names_tokens names (grind arith))
 
 name_tokens_are : (names : List (List ℕ)) → list_all is_name names ≡ true → list_all is_name_token (map word names) ≡ true
@@ -108,7 +103,7 @@ numeral_word (b ∷ w) h all = head_word b w all
 once_form : (name text : List ℕ) → is_name name ≡ true → form_of (lexemes_of (codes "agent " ++ (name ++ 32 ∷ 58 ∷ 32 ∷ text))) ≡ belief name 1 (lexemes_of text)
 once_form name text legal =
     ap form_of (word_blank (codes "agent") (name ++ 32 ∷ 58 ∷ 32 ∷ text) (head_word 97 (codes "gent") refl)
-    ∙ ap (λ ts. word (codes "agent") ∷ ts) (word_blank name (58 ∷ 32 ∷ text) (name_word name (plain name legal))))
+    ∙ ap (λ ts. word (codes "agent") ∷ ts) (word_blank name (58 ∷ 32 ∷ text) (plain_word name (plain name legal))))
     ∙ if_true (is_plain_name name) _ _ (plain name legal)
 
 -- and of one that counts more often
@@ -116,7 +111,7 @@ times_form_of : (name numeral text : List ℕ) → is_name name ≡ true → is_
     form_of (lexemes_of (codes "agent " ++ (name ++ 32 ∷ (codes "times" ++ 32 ∷ (numeral ++ 32 ∷ 58 ∷ 32 ∷ text))))) ≡ belief name (value_after 0 numeral) (lexemes_of text)
 times_form_of name numeral text legal digits all =
     ap form_of (word_blank (codes "agent") (name ++ 32 ∷ (codes "times" ++ 32 ∷ (numeral ++ 32 ∷ 58 ∷ 32 ∷ text))) (head_word 97 (codes "gent") refl)
-    ∙ ap (λ ts. word (codes "agent") ∷ ts) (word_blank name (codes "times" ++ 32 ∷ (numeral ++ 32 ∷ 58 ∷ 32 ∷ text)) (name_word name (plain name legal))
+    ∙ ap (λ ts. word (codes "agent") ∷ ts) (word_blank name (codes "times" ++ 32 ∷ (numeral ++ 32 ∷ 58 ∷ 32 ∷ text)) (plain_word name (plain name legal))
     ∙ ap (λ ts. word name ∷ ts) (word_blank (codes "times") (numeral ++ 32 ∷ 58 ∷ 32 ∷ text) (head_word 116 (codes "imes") refl)
     ∙ ap (λ ts. word (codes "times") ∷ ts) (word_blank numeral (58 ∷ 32 ∷ text) (numeral_word numeral digits all)))))
     ∙ if_true (is_plain_name name) _ _ (plain name legal)

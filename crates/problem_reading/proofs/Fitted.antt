@@ -1,5 +1,5 @@
 -- What a line without a fault says fits.
-use Rattle.std.proofs.Common.{◌≡◌, ℕ, ◌+◌, ◌-◌, ◌*◌, ◌≤◌, Bool, true, false, ◌||◌, ◌&&◌, List, [], ◌∷◌, length, nat_lt, nat_le, length-append, codes, if◌then◌else◌, refl, ap, ◌∙◌, arith}
+use Rattle.std.proofs.Common.{◌≡◌, ℕ, ◌+◌, ◌-◌, ◌*◌, ◌≤◌, Bool, true, false, ◌&&◌, List, [], ◌∷◌, length, nat_lt, nat_le, length-append, codes, if◌then◌else◌, refl, ap, ◌∙◌, arith}
 use Rattle.std.specs.List.{list_all}
 use Rattle.std.specs.Str.{bytes_eq}
 use Rattle.std.proofs.lemmas.Bool.Decides.{nat_tests}
@@ -10,7 +10,7 @@ use Rattle.formulas.specs.Limits.{agent_limit, ask_limit, name_limit, node_limit
 use Rattle.line_tokens.specs.Lexemes.{Lexeme, word, colon, lexemes_of}
 use Rattle.problem_lines.specs.Lines.{content_of}
 use Rattle.formula_grammar.specs.Readings.{IsRead}
-use Rattle.formula_grammar.proofs.Measures.{nodes_spelled, width_spelled}
+use Rattle.formula_grammar.proofs.Measures.{nodes_spelled, width_spelled, both_false}
 use Rattle.formula_grammar.proofs.Names.{nodes_of_symbols, past_unknown}
 use Rattle.merge_model.specs.Limits.{IsWithin}
 use Rattle.problem_lines.specs.Forms.{Form, blank, declaration, condition, belief, query, unknown, is_name_token, words_of, form_of, atoms_form, agent_form, times_form, numeral_form, base_form}
@@ -93,10 +93,6 @@ within_read atoms ts f read = record { width = width_spelled (length atoms) read
 one_bound : (n k : ℕ) → nat_lt n k ≡ false → k ≤ n
 one_bound n k h = grind (arith, nat_tests)
 
-two_false : (a b : Bool) → (a || b) ≡ false → (a ≡ false) × (b ≡ false)
-two_false true b h = absurd (cc)
-two_false false b h = (refl, h)
-
 named : (name : List ℕ) → is_plain_name name ≡ true → is_reserved name ≡ false → is_long name ≡ false → is_name name ≡ true
 named name plain free short = let few : nat_le (length name) name_limit ≡ true = grind (arith, nat_tests) in grind (arith, few)
 
@@ -106,9 +102,9 @@ fits_form d (declaration names) (Names atoms) ok h = omega (arith, ap length h.3
 fits_form d (condition ts) (Condition f) ok h =
     record { nodes = omega (arith, nodes_read d.atoms ts f h.0, one_bound node_limit (other_size d.agents d.asks + size_of ts) h.2); within = within_read d.atoms ts f h.0 }
 fits_form d (belief name times ts) (Belief agent) ok h =
-    let all = two_false _ _ h.3 in
-    let most = two_false _ _ all.0 in
-    let few = two_false _ _ most.0 in
+    let all = both_false _ _ h.3 in
+    let most = both_false _ _ all.0 in
+    let few = both_false _ _ most.0 in
     record {
       room = one_bound agent_limit (length d.agents + 1) few.0;
       times = omega (arith, h.5, one_bound times_limit (total_times d.agents + times) most.1);
@@ -119,7 +115,7 @@ fits_form d (belief name times ts) (Belief agent) ok h =
       absent = ap (is_agent d) h.4 ∙ h.2;
     }
 fits_form d (query ts) (Query f) ok h =
-    let both = two_false _ _ h.1 in
+    let both = both_false _ _ h.1 in
     record {
       room = one_bound ask_limit (length d.asks + 1) both.0;
       nodes = omega (arith, nodes_read d.atoms ts f h.0, one_bound node_limit (constraint_size d.constraint + other_size d.agents d.asks + size_of ts) both.1);

@@ -1,5 +1,5 @@
 -- Lists of names: what is met twice, and what may follow.
-use Rattle.std.proofs.Common.{◌≡◌, ℕ, ◌+◌, ◌≤◌, ◌<◌, Bool, true, false, not, ◌&&◌, ◌||◌, List, [], ◌∷◌, ◌++◌, Option, Some, None, length, cond, position, nat_lt, nat_le, slice_get, drop, append_assoc, append-nil, length-append, suc, zero, refl, ap, sym, ◌∙◌, arith}
+use Rattle.std.proofs.Common.{◌≡◌, ℕ, ◌+◌, ◌≤◌, ◌<◌, Bool, true, false, not, ◌||◌, List, [], ◌∷◌, ◌++◌, Option, Some, None, length, cond, position, nat_lt, nat_le, append_assoc, append-nil, length-append, suc, refl, ap, sym, ◌∙◌, arith}
 use Rattle.std.specs.List.{list_any, list_all, position_or_len}
 use Rattle.std.specs.Str.{bytes_eq}
 use Rattle.std.proofs.lemmas.Bool.Decides.{nat_tests}
@@ -7,7 +7,7 @@ use Rattle.std.proofs.lemmas.List.Folds.{list_any-append, list_all-append}
 use Rattle.std.proofs.lemmas.Slice.Eq.{bytes_eq-Decides}
 use Rattle.report_words.proofs.Numerals.{both_true}
 use Rattle.formulas.specs.Names.{is_name, is_plain_name, is_reserved, are_distinct, are_names}
-use Rattle.formulas.proofs.NameViews.{names_added}
+use Rattle.formulas.proofs.NameViews.{names_added, bytes_eq-comm}
 use Rattle.formulas.specs.Limits.{atom_limit, name_limit}
 use Rattle.problem_reading.specs.Drafts.{is_long}
 use Rattle.line_tokens.specs.Lexemes.{Lexeme, word, bang, ampersand, bar, arrow, both_arrow, open_bracket, close_bracket, colon, stray}
@@ -31,19 +31,8 @@ found_on p xs k false e h =
 pub found : {X : Type 0} (p : X → Bool) (xs : List X) (k : ℕ) → position p xs ≡ Some k → list_any p xs ≡ true
 found p xs k h = found_on p xs k (list_any p xs) refl h
 
-bytes_eq-comm : (m n : List ℕ) → bytes_eq m n ≡ false → bytes_eq n m ≡ false
-bytes_eq-comm m n e = grind (arith, bytes_eq-Decides m n, bytes_eq-Decides n m)
-
 bytes_eq-comm_true : (m n : List ℕ) → bytes_eq m n ≡ true → bytes_eq n m ≡ true
 bytes_eq-comm_true m n e = grind (arith, bytes_eq-Decides m n, bytes_eq-Decides n m)
-
--- one more name that was not met
-pub distinct_more : (names : List (List ℕ)) (name : List ℕ) → are_distinct names ≡ true → list_any (bytes_eq name) names ≡ false →
-    are_distinct (names ++ name ∷ []) ≡ true
-distinct_more [] name known absent = refl
-distinct_more (n ∷ names) name known absent =
-    let other : bytes_eq n name ≡ false = bytes_eq-comm name n (grind arith) in
-    grind (arith, other, list_any-append (bytes_eq n) names (name ∷ []), distinct_more names name (grind arith) (grind arith))
 
 twice_on : (n name : List ℕ) (names rest : List (List ℕ)) (t : Bool) → bytes_eq name n ≡ t → (t || list_any (bytes_eq name) names) ≡ true →
     (list_any (bytes_eq name) names ≡ true → are_distinct (names ++ name ∷ rest) ≡ false) → are_distinct (n ∷ names ++ name ∷ rest) ≡ false
@@ -78,12 +67,6 @@ may_follow before after all name e are few =
       room = omega (arith, few, ap length e, length-append before (name ∷ after));
       absent = absent_on before after name (list_any (bytes_eq name) before) refl known.1;
     }
-
--- a place of a list and what is after it
-pub drop_at : {X : Type 0} (xs : List X) (k : ℕ) (x : X) → slice_get xs k ≡ Some x → drop k xs ≡ x ∷ drop (suc k) xs
-drop_at [] k x h = absurd (grind arith)
-drop_at (y ∷ xs) zero x h = let same : y ≡ x = cc in ap (λ z. z ∷ xs) same
-drop_at (y ∷ xs) (suc k) x h = drop_at xs k x h
 
 none_more_on : (ws names : List (List ℕ)) (w : List ℕ) → list_any (λ n. list_any (bytes_eq n) names) ws ≡ false → list_any (bytes_eq w) ws ≡ false →
     list_any (λ n. list_any (bytes_eq n) (names ++ w ∷ [])) ws ≡ false

@@ -26,7 +26,7 @@ lines_step line xs k x old before after within is so_far more =
     more ∙ ap (λ t. t ++ (line x ++ codes "\n")) so_far ∙ append_assoc old (lines_text (map line (take k xs))) (line x ++ codes "\n") ∙ ap (λ t. old ++ t) (sym written)
 
 -- a place of a list and what is after it
-drop_at : {X : Type 0} (xs : List X) (k : ℕ) (x : X) → slice_get xs k ≡ Some x → drop k xs ≡ x ∷ drop (suc k) xs
+pub drop_at : {X : Type 0} (xs : List X) (k : ℕ) (x : X) → slice_get xs k ≡ Some x → drop k xs ≡ x ∷ drop (suc k) xs
 drop_at [] k x h = absurd (grind arith)
 drop_at (y ∷ xs) zero x h = let same : y ≡ x = cc in ap (λ z. z ∷ xs) same
 drop_at (y ∷ xs) (suc k) x h = drop_at xs k x h

@@ -9,7 +9,7 @@ use Rattle.derivation_log.specs.StepReading.{◌>>=◌}
 use Rattle.derivation_log.proofs.Readers.{bind_some, some_is, guard_is, eq_is, eq_again}
 use Rattle.report_lines.specs.Items.{Item, item_words}
 use Rattle.report_lines.specs.LineReading.{each_at}
-use Rattle.report_lines.proofs.Elements.{each_found, each_again}
+use Rattle.report_lines.proofs.Elements.{each_found, each_again, eq_same}
 
 abbrev pub Decided : Type 0 → Type 0
 Decided P = P ⊎ (P → ⊥)
@@ -26,9 +26,6 @@ same_words vs ws = by_test _ (vs ≡ ws) (slice_eq-Decides bytes_eq-Decides vs w
 
 eq_number : (n m : ℕ) → (n == m) ≡ true → n ≡ m
 eq_number n m e = (Decides-eqb n m).0 e
-
-number_eq : (n m : ℕ) → n ≡ m → (n == m) ≡ true
-number_eq n m e = (Decides-eqb n m).1 e
 
 -- an item of D has the words, or none has
 abbrev pub Choice : (Item → Type 0) → List (List ℕ) → Type 0
@@ -95,7 +92,7 @@ module _ {B : Type 0} (f : List ℕ → Option B) where
         (cons_is w first ws (map spell a.0) (eq_is w first g.0) h.0, eq_number (length a.0) count l.0, h.1)
 
     pub row_again : (first : List ℕ) (count : ℕ) (bs : List B) → length bs ≡ count → AllByRecursion P bs → row_at first count (first ∷ map spell bs) ≡ Some bs
-    row_again first count bs l h = rw (eq_again first, each_again f spell P again bs h, number_eq (length bs) count l) refl
+    row_again first count bs l h = rw (eq_again first, each_again f spell P again bs h, eq_same (length bs) count l) refl
 
     pub row_choice : (item : List B → Item) (first : List ℕ) (count : ℕ) → ((bs : List B) → item_words (item bs) ≡ first ∷ map spell bs) → (ws : List (List ℕ)) →
         Choice (λ x. (bs : List B) × (x ≡ item bs) × (length bs ≡ count) × AllByRecursion P bs) ws

@@ -4,9 +4,8 @@ use Rattle.std.proofs.lemmas.Bool.Decides.{nat_tests}
 use Rattle.std.specs.List.{AllByRecursion}
 use Rattle.formula_text.specs.ValuationWords.{valuation_word}
 use Rattle.report_words.specs.Numbers.{HasNumeral, number_at}
-use Rattle.report_words.specs.Words.{words_of, line_of}
+use Rattle.report_words.specs.Words.{words_of}
 use Rattle.report_words.proofs.Numerals.{number_found, number_again, both_true}
-use Rattle.report_words.proofs.Spelling.{line_of_words}
 use Rattle.derivation_log.specs.StepLines.{IsStep}
 use Rattle.derivation_log.specs.StepReading.{step_at, ◌>>=◌}
 use Rattle.derivation_log.proofs.Readers.{bind_some, some_is, guard_is}
@@ -25,6 +24,7 @@ use Rattle.report_lines.specs.Items.{Item, HeadLine, DistanceLine, AggregatorLin
 use Rattle.report_lines.specs.LineReading.{valuation_at}
 use Rattle.report_lines.specs.Places.{Position, DueAt, IsProblemLine, IsModelLine, IsNamedLine, IsAnswerLine, IsProofLine, first_word, conflict_limit, atoms_at, agents_at, measure_at, end_number}
 use Rattle.report_lines.proofs.Elements.{valuation_found, valuation_again}
+use Rattle.report_lines.proofs.OneItem.{same_line}
 use Rattle.report_laws.proofs.Choices.{Decided, Choice, same_word, one_choice, either, moved, read_choice, row_at, row_found, row_again, row_choice, last_choice}
 
 -- the operators and the verdict
@@ -111,9 +111,6 @@ main_by ws None e = inr (λ x d f.
     let g : None ≡ Some (d.0 ∷ d.1 ∷ []) = sym e ∙ (ap (row_at number_at (codes "main") 2) (f ∙ ap item_words d.2) ∙ again) in cc)
 
 -- lines of the problem
-
-same_line : (l m : List ℕ) → words_of l ≡ words_of m → l ≡ m
-same_line l m e = sym (line_of_words l) ∙ (ap line_of e ∙ line_of_words m)
 
 problem_by : (word line : List ℕ) → Decided (first_word line ≡ word) → Choice (IsProblemLine word) (words_of line)
 problem_by word line (inl h) = inl (ProblemLine line, (line, refl, h), refl)

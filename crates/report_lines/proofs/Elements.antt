@@ -1,13 +1,13 @@
 -- Rows that are read element by element.
 use Rattle.std.proofs.Common.{◌≡◌, ◌≢◌, ℕ, ◌+◌, ◌<◌, ◌≤◌, ◌==◌, Bool, true, false, cond, List, [], ◌∷◌, ◌++◌, map, length, take, drop, get_or, set, Option, None, Some, IfSome, IfNone, refl, ap, sym, subst, ◌∙◌, add-one, drop-cons, append_assoc, arith}
 use Rattle.std.specs.List.{AllByRecursion}
-use Rattle.std.proofs.lemmas.Grind.{common_steps}
 use Rattle.std.proofs.lemmas.List.{take_more_set, length-map, append-nil, take_all}
 use Rattle.std.proofs.lemmas.Bool.Decides.{nat_tests}
 use Rattle.derivation_log.specs.StepReading.{◌>>=◌}
 use Rattle.derivation_log.proofs.Readers.{bind_some, some_is, guard_is}
 use Rattle.formula_text.specs.ValuationWords.{truth_digit, valuation_word}
 use Rattle.report_lines.specs.LineReading.{after_each, each_at, bit_at, valuation_at}
+use Rattle.log_lines.proofs.News.{drop_past}
 
 cons_is : {A : Type 0} (x y : A) (xs ys : List A) → x ≡ y → xs ≡ ys → x ∷ xs ≡ y ∷ ys
 cons_is x y xs ys e f = cc
@@ -15,9 +15,6 @@ cons_is x y xs ys e f = cc
 front_none : {B : Type 0} (read : Option (List B)) → after_each [] read ≡ read
 front_none None = refl
 front_none (Some ys) = refl
-
-drop_past : {A : Type 0} (xs : List A) (k : ℕ) → length xs ≤ k → drop k xs ≡ []
-drop_past xs k h = grind (arith, common_steps)
 
 -- one more element is read
 pub after_more : {B : Type 0} (front : List B) (y : B) (read : Option (List B)) → after_each front (after_each (y ∷ []) read) ≡ after_each (front ++ y ∷ []) read
@@ -33,10 +30,6 @@ module _ {A B : Type 0} (f : A → Option B) where
   pub each_stop : (front : List B) (x : A) (xs : List A) (whole : Option (List B)) → f x ≡ None → after_each front (each_at f (x ∷ xs)) ≡ whole → whole ≡ None
   unfolding each_at
   each_stop front x xs whole e h = sym h ∙ ap (λ (o : Option B). after_each front (o >>= λ z. after_each (z ∷ []) (each_at f xs))) e
-
-  pub each_end : (front : List B) (whole : Option (List B)) → after_each front (each_at f []) ≡ whole → whole ≡ Some (front ++ [])
-  unfolding each_at
-  each_end front whole h = sym h
 
   module _ (spell : B → A) (P : B → Type 0) where
     pub each_found : ((x : A) (y : B) → f x ≡ Some y → (x ≡ spell y) × P y) → (xs : List A) (ys : List B) → each_at f xs ≡ Some ys → (xs ≡ map spell ys) × AllByRecursion P ys
@@ -66,10 +59,10 @@ module _ {A B : Type 0} (f : A → Option B) where
         let same : xs ≡ map spell ys = cc in
         some_is all ys (sym some ∙ (ap (each_at f) same ∙ each_again one ys h))
 
-eq_is : (a b : ℕ) → (a == b) ≡ true → a ≡ b
+pub eq_is : (a b : ℕ) → (a == b) ≡ true → a ≡ b
 eq_is a b e = grind (arith, nat_tests)
 
-eq_same : (a b : ℕ) → a ≡ b → (a == b) ≡ true
+pub eq_same : (a b : ℕ) → a ≡ b → (a == b) ≡ true
 eq_same a b e = grind (arith, nat_tests)
 
 bit_by : (s t : Bool) (b : ℕ) (x : Bool) → (b == 49) ≡ s → (b == 48) ≡ t → cond s (Some true) (cond t (Some false) None) ≡ Some x → b ≡ truth_digit x

@@ -4,7 +4,6 @@ pub mod Once
 pub mod ItemsLaw
 pub mod Elements
 pub mod LineFacts
-pub mod Orders
 pub mod Refuted
 pub mod Witnesses
 pub mod Truths

@@ -4,7 +4,7 @@ use Rattle.std.specs.List.{AllByRecursion}
 use Rattle.report_words.specs.Numbers.{HasNumeral, number_at}
 use Rattle.report_words.specs.Words.{words_of, line_of}
 use Rattle.report_words.proofs.Numerals.{number_again, some_same}
-use Rattle.report_words.proofs.Spelling.{line_of_words}
+use Rattle.report_words.proofs.Spelling.{line_of_words, line_at}
 use Rattle.merge_model.proofs.OperatorWords.{one_distance, one_aggregator}
 use Rattle.derivation_log.specs.StepLines.{StepLine, IsStep, step_words}
 use Rattle.derivation_log.specs.StepReading.{step_at}
@@ -48,7 +48,7 @@ same_numbers (n ∷ ns) (m ∷ ms) h k e =
     let b : map decimal ns ≡ map decimal ms = cc in
     cons_is n m ns ms (same_number n m h.0 k.0 a) (same_numbers ns ms h.1 k.1 b)
 
-same_valuation : (v w : List Bool) → valuation_word v ≡ valuation_word w → v ≡ w
+pub same_valuation : (v w : List Bool) → valuation_word v ≡ valuation_word w → v ≡ w
 same_valuation [] [] e = refl
 same_valuation [] (b ∷ w) e = absurd (cc)
 same_valuation (a ∷ v) [] e = absurd (cc)
@@ -77,11 +77,8 @@ same_step s t h k e = some_same (sym (step_again s h) ∙ (ap step_at e ∙ step
 
 -- lines of the problem
 
-text_is : (l : List ℕ) (ws : List (List ℕ)) → words_of l ≡ ws → l ≡ line_of ws
-text_is l ws e = sym (line_of_words l) ∙ ap line_of e
-
-same_line : (l m : List ℕ) → words_of l ≡ words_of m → l ≡ m
-same_line l m e = text_is l (words_of m) e ∙ line_of_words m
+pub same_line : (l m : List ℕ) → words_of l ≡ words_of m → l ≡ m
+same_line l m e = line_at l (words_of m) e ∙ line_of_words m
 
 same_problem : (v w : List ℕ) (x y : Item) → IsProblemLine v x → IsProblemLine w y → item_words x ≡ item_words y → x ≡ y
 same_problem v w x y d e f = d.1 ∙ (ap ProblemLine (same_line d.0 e.0 (sym (ap item_words d.1) ∙ (f ∙ ap item_words e.1))) ∙ sym e.1)
@@ -90,7 +87,7 @@ same_problem v w x y d e f = d.1 ∙ (ap ProblemLine (same_line d.0 e.0 (sym (ap
 problem_other : (w ws : List ℕ) (x : Item) (line : List (List ℕ)) (a : ℕ) (rest : List ℕ) → w ≡ 97 ∷ ws → IsProblemLine w x → item_words x ≡ line →
     97 < a → first_word (line_of line) ≡ a ∷ rest → ⊥
 problem_other w ws x line a rest h d f big g =
-    let l : d.0 ≡ line_of line = text_is d.0 line (sym (ap item_words d.1) ∙ f) in
+    let l : d.0 ≡ line_of line = line_at d.0 line (sym (ap item_words d.1) ∙ f) in
     above a 97 rest ws big (sym g ∙ (sym (ap first_word l) ∙ (d.2 ∙ h)))
 
 problem_answer : (w : List ℕ) (ws : List ℕ) (p : Position) (x y : Item) → w ≡ 97 ∷ ws → IsProblemLine w x → IsAnswerLine p y → item_words x ≡ item_words y → ⊥
@@ -114,29 +111,29 @@ last_of (BaseOf i) v w e = cc
 last_named : (s : Subject) (v w : List ℕ) → codes "has-model" ∷ (subject_words s ++ v ∷ []) ≡ codes "has-model" ∷ (subject_words s ++ w ∷ []) → v ≡ w
 last_named s v w e = let f : subject_words s ++ v ∷ [] ≡ subject_words s ++ w ∷ [] = cc in last_of s v w f
 
-words_differ : (a b : List ℕ) (xs ys : List (List ℕ)) → a ∷ xs ≡ b ∷ ys → a ≡ b
-words_differ a b xs ys e = cc
+pub first_words : (a b : List ℕ) (xs ys : List (List ℕ)) → a ∷ xs ≡ b ∷ ys → a ≡ b
+first_words a b xs ys e = cc
 
 no_is_not_has : codes "no-model" ≡ codes "has-model" → ⊥
 no_is_not_has e = above 110 104 _ _ (omega arith) e
 
 same_named : (p : Position) (s : Subject) (x y : Item) → IsNamedLine p s x → IsNamedLine p s y → item_words x ≡ item_words y → x ≡ y
 same_named p s x y (inl d) (inl e) f = d ∙ sym e
-same_named p s x y (inl d) (inr e) f = absurd (no_is_not_has (words_differ (codes "no-model") (codes "has-model") _ _ (sym (ap item_words d) ∙ (f ∙ ap item_words e.1))))
-same_named p s x y (inr d) (inl e) f = absurd (no_is_not_has (sym (words_differ (codes "has-model") (codes "no-model") _ _ (sym (ap item_words d.1) ∙ (f ∙ ap item_words e)))))
+same_named p s x y (inl d) (inr e) f = absurd (no_is_not_has (first_words (codes "no-model") (codes "has-model") _ _ (sym (ap item_words d) ∙ (f ∙ ap item_words e.1))))
+same_named p s x y (inr d) (inl e) f = absurd (no_is_not_has (sym (first_words (codes "has-model") (codes "no-model") _ _ (sym (ap item_words d.1) ∙ (f ∙ ap item_words e)))))
 same_named p s x y (inr d) (inr e) f =
     let h : valuation_word d.0 ≡ valuation_word e.0 = last_named s (valuation_word d.0) (valuation_word e.0) (sym (ap item_words d.1) ∙ (f ∙ ap item_words e.1)) in
     d.1 ∙ (ap (λ (w : List Bool). HasModelLine s w) (same_valuation d.0 e.0 h) ∙ sym e.1)
 
 -- the first words of the answers' first lines
 model_other : (p : Position) (x y : Item) → IsModelLine p x → IsNamedLine p TheConstraint y ⊎ (y ≡ GaveUpLine) → item_words x ≡ item_words y → ⊥
-model_other p x y d (inl (inl e)) f = let g = words_differ (codes "model") (codes "no-model") _ _ (sym (ap item_words d.1) ∙ (f ∙ ap item_words e)) in below 109 110 _ _ (omega arith) g
-model_other p x y d (inl (inr e)) f = let g = words_differ (codes "model") (codes "has-model") _ _ (sym (ap item_words d.1) ∙ (f ∙ ap item_words e.1)) in above 109 104 _ _ (omega arith) g
-model_other p x y d (inr e) f = let g = words_differ (codes "model") (codes "gave-up") _ _ (sym (ap item_words d.1) ∙ (f ∙ ap item_words e)) in above 109 103 _ _ (omega arith) g
+model_other p x y d (inl (inl e)) f = let g = first_words (codes "model") (codes "no-model") _ _ (sym (ap item_words d.1) ∙ (f ∙ ap item_words e)) in below 109 110 _ _ (omega arith) g
+model_other p x y d (inl (inr e)) f = let g = first_words (codes "model") (codes "has-model") _ _ (sym (ap item_words d.1) ∙ (f ∙ ap item_words e.1)) in above 109 104 _ _ (omega arith) g
+model_other p x y d (inr e) f = let g = first_words (codes "model") (codes "gave-up") _ _ (sym (ap item_words d.1) ∙ (f ∙ ap item_words e)) in above 109 103 _ _ (omega arith) g
 
 named_other : (p : Position) (x y : Item) → IsNamedLine p TheConstraint x → y ≡ GaveUpLine → item_words x ≡ item_words y → ⊥
-named_other p x y (inl d) e f = let g = words_differ (codes "no-model") (codes "gave-up") _ _ (sym (ap item_words d) ∙ (f ∙ ap item_words e)) in above 110 103 _ _ (omega arith) g
-named_other p x y (inr d) e f = let g = words_differ (codes "has-model") (codes "gave-up") _ _ (sym (ap item_words d.1) ∙ (f ∙ ap item_words e)) in above 104 103 _ _ (omega arith) g
+named_other p x y (inl d) e f = let g = first_words (codes "no-model") (codes "gave-up") _ _ (sym (ap item_words d) ∙ (f ∙ ap item_words e)) in above 110 103 _ _ (omega arith) g
+named_other p x y (inr d) e f = let g = first_words (codes "has-model") (codes "gave-up") _ _ (sym (ap item_words d.1) ∙ (f ∙ ap item_words e)) in above 104 103 _ _ (omega arith) g
 
 same_answer : (p : Position) (x y : Item) → IsAnswerLine p x → IsAnswerLine p y → item_words x ≡ item_words y → x ≡ y
 same_answer p x y (inl d) (inl e) f = same_model p x y d e f
@@ -167,8 +164,8 @@ same_proof (c ∷ cs) k x y d e f =
     d.1 ∙ (ap (λ (n : ℕ). ShownLine c n) (same_number d.0 e.0 d.2 e.2 (last_shown c (decimal d.0) (decimal e.0) g)) ∙ sym e.1)
 
 step_proof : (cs : List DueClaim) (k : Kind) (s : StepLine) (y : Item) → IsProofLine cs k y → step_words s ≡ item_words y → ⊥
-step_proof [] k s y e f = let g = words_differ (codes "step") (codes "end") _ _ (f ∙ ap item_words e) in above 115 101 _ _ (omega arith) g
-step_proof (c ∷ cs) k s y e f = let g = words_differ (codes "step") (codes "shown") _ _ (f ∙ ap item_words e.1) in above 116 104 _ _ (omega arith) (tail_is 115 115 _ _ g)
+step_proof [] k s y e f = let g = first_words (codes "step") (codes "end") _ _ (f ∙ ap item_words e) in above 115 101 _ _ (omega arith) g
+step_proof (c ∷ cs) k s y e f = let g = first_words (codes "step") (codes "shown") _ _ (f ∙ ap item_words e.1) in above 116 104 _ _ (omega arith) (tail_is 115 115 _ _ g)
 
 one_asks : (p : Position) (x y : Item) → DueAt due.Asks p x → DueAt due.Asks p y → item_words x ≡ item_words y → x ≡ y
 one_asks p x y (inl d) (inl e) f = same_problem (codes "ask") (codes "ask") x y d e f

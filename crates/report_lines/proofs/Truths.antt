@@ -25,10 +25,11 @@ use Rattle.merge_encoding.proofs.Same.{IsProperOf}
 use Rattle.report_lines.specs.declared.kinds.Subject.TheVariants.{TheConstraint}
 use Rattle.report_lines.specs.ClaimsDue.{of_first, far_claims, least_claims, verdict_claims, unless_some, base_claims}
 use Rattle.report_lines.specs.Accepted.{Operator, values_in, IsWitness, IsWitnessedVerdict, IsWitnessedMerge, IsWitnessedEntry, IsWitnessedNaming}
-use Rattle.report_lines.proofs.Orders.{NotAbove, one_list, no_first_lower, none_below_zero, up_itself}
+use Rattle.merge_encoding.proofs.ValueOrders.{NotAbove, one_list, no_first_lower, none_below_zero, up_itself}
+use Rattle.merge_encoding.proofs.Signs.{fit_length}
 use Rattle.report_lines.proofs.Refuted.{IsOut, AreOut, out_front, numbered_out, IsVerdictOut, verdict_out, base_out}
-use Rattle.report_lines.proofs.Witnesses.{away_size, fit_long, models_long, copies_within, have_models, vector_exact, shown_nearest, full_long}
-use Rattle.merge_model.proofs.Nearest.{nearest_copies}
+use Rattle.report_lines.proofs.Witnesses.{away_size, models_long, copies_within, vector_exact, shown_nearest, full_long}
+use Rattle.merge_model.proofs.Nearest.{nearest_copies, have_models}
 
 -- what a distance and an aggregator keep
 pub record AreLaws (op : Operator) : Type 0 where
@@ -40,7 +41,7 @@ pub record AreLaws (op : Operator) : Type 0 where
 pub shared_size : {dist : List Bool → List Bool → ℕ} {top : ℕ} {values_of : List ℕ → ℕ → List ℕ} {p : Profile} {asks : List Formula} {main : MainDue} → IsMain dist top values_of p asks main → length main.shared ≡ p.atoms
 shared_size {p = p} m = ap length m.shared_are ∙ length-fresh_lits 0 p.atoms
 
-pub unless_false : (b : Bool) → (b ≡ false → ⊥) → b ≡ true
+unless_false : (b : Bool) → (b ≡ false → ⊥) → b ≡ true
 unless_false true h = refl
 unless_false false h = absurd (h refl)
 
@@ -90,7 +91,7 @@ module _ (op : Operator) (laws : AreLaws op) (p : Profile) (asks : List Formula)
       (copies_within op.dist p.atoms v model.size (op.most p.atoms) (λ w same. dist_within v w model.size same) p.bases ws c.models)
 
   pub values_long : (v : List Bool) (ws : List (List Bool)) → IsCandidate p v ws → length (values_of v ws) ≡ length main.levels
-  values_long v ws c = fit_long (values_of v ws) main.levels (values_fit v ws c)
+  values_long v ws c = fit_length (values_of v ws) main.levels (values_fit v ws c)
 
   better_by : (values : List ℕ) → FitLevels values main.levels → length values ≡ length main.levels → AreOut main (least_claims values) → (j k : ℕ) → slice_index values j ≡ k → j < length values →
       (u : List Bool) (us : List (List Bool)) → IsCandidate p u us → IsBetterAt j (values_of u us) values → ⊥

@@ -5,10 +5,9 @@ use Rattle.std.specs.List.{AllZip}
 use Rattle.std.proofs.lemmas.List.Elements.{All-nil, All-cons, All-head, All-tail}
 use Rattle.formulas.specs.declared.formula.Formula.{Formula}
 use Rattle.formulas.specs.declared.formula.Formula as formula
-use Rattle.merge_model.specs.Merging.{IsModel, HasModel, away, vector_of, repeated}
+use Rattle.merge_model.specs.Merging.{IsModel, away, vector_of, repeated}
 use Rattle.merge_model.proofs.Nearest.{away_is}
 use Rattle.agent_copies.specs.Copy.{CopyDue}
-use Rattle.aggregators.specs.Levels.{FitLevels}
 use Rattle.merge_encoding.specs.MainDues.{aways_of}
 use Rattle.merge_encoding.proofs.Same.{no_copy}
 
@@ -17,23 +16,11 @@ away_size top [] j h lt = absurd (omega arith)
 away_size top (c ∷ cs) zero h lt = All-head (λ x. length x ≡ top) c.away (aways_of cs) h
 away_size top (c ∷ cs) (suc j) h lt = away_size top cs j (All-tail (λ x. length x ≡ top) c.away (aways_of cs) h) (omega arith)
 
-pub fit_long : (values : List ℕ) (ls : List (List ℕ)) → FitLevels values ls → length values ≡ length ls
-fit_long [] [] h = refl
-fit_long [] (l ∷ ls) h = absurd h
-fit_long (x ∷ xs) [] h = absurd h
-fit_long (x ∷ xs) (l ∷ ls) h = ap suc (fit_long xs ls h.1)
-
 pub models_long : (n : ℕ) (fs : List Formula) (ws : List (List Bool)) → AllZip (IsModel n) fs ws → length ws ≡ length fs
 models_long n [] [] h = refl
 models_long n [] (w ∷ ws) h = absurd h
 models_long n (f ∷ fs) [] h = absurd h
 models_long n (f ∷ fs) (w ∷ ws) h = ap suc (models_long n fs ws h.1)
-
-pub have_models : (n : ℕ) (bases : List Formula) (ws : List (List Bool)) → AllZip (IsModel n) bases ws → All (HasModel n) bases
-have_models n [] [] h = All-nil (HasModel n)
-have_models n [] (w ∷ ws) h = absurd h
-have_models n (f ∷ fs) [] h = absurd h
-have_models n (f ∷ fs) (w ∷ ws) h = All-cons (HasModel n) f fs (w, h.0) (have_models n fs ws h.1)
 
 module _ (dist : List Bool → List Bool → ℕ) (n : ℕ) (v : List Bool) (size : length v ≡ n) where
   pub vector_exact : (bases : List Formula) (ws : List (List Bool)) → AllZip (IsModel n) bases ws →

@@ -72,6 +72,7 @@ fn takes_next(words: &mut Words<'_>, n: usize) -> bool
     }
 }
 
+/// Whether no word is left.
 pub fn is_end(words: &mut Words<'_>) -> bool
     ensures { IsTrue result ↔ (words.old ≡ []) }
 {

@@ -2,27 +2,25 @@
 use Rattle.std.proofs.Common.{◌≡◌, ◌≢◌, ℕ, Bool, true, false, ◌||◌, List, codes, refl, ap, sym, subst, ◌∙◌, inl, inr, Result, Ok, Err}
 use Rattle.std.specs.Str.{bytes_eq}
 use Rattle.std.proofs.lemmas.Slice.Eq.{bytes_eq-Decides}
-use Rattle.report_words.specs.Words.{words_of, line_of}
-use Rattle.report_words.proofs.Spelling.{line_of_words}
+use Rattle.report_words.specs.Words.{words_of}
 use Rattle.report_lines.specs.declared.kinds.Due.{Due}
 use Rattle.report_lines.specs.declared.kinds.Due.TheVariants as due
 use Rattle.report_lines.specs.declared.kinds.RefusedKind.{RefusedKind}
 use Rattle.report_lines.specs.Items.{Item, ProblemLine, item_words}
 use Rattle.report_lines.specs.Places.{Position, DueAt, IsProblemLine, IsAnswerLine, first_word}
 use Rattle.report_lines.specs.Judged.{IsWrongAs, absent, faulty}
+use Rattle.report_lines.proofs.OneItem.{same_line}
 use Rattle.report_text.specs.declared.front.FrontDue.{FrontDue}
 use Rattle.report_text.specs.declared.front.FrontDue.TheVariants as front
 use Rattle.report_text.specs.declared.stop.LineStop.{LineStop}
 use Rattle.report_text.specs.declared.stop.LineStop.TheVariants as stops
 use Rattle.report_text.specs.Front.{LeavesAnswers, due_of, takes}
 use Rattle.report_text.specs.Judging.{JudgedAs, IsJudged}
+use Rattle.formula_grammar.proofs.Measures.{both_false}
 
 pub at_due : {X : Type 0} (p : Position) (d : Due) (line : List ℕ) (stands : Position → Type 0) (r : Result X LineStop) → p.due ≡ d →
     JudgedAs (DueAt d p) p line stands r → IsJudged p line stands r
 at_due p d line stands r e h = subst (λ (k : Due). JudgedAs (DueAt k p) p line stands r) (sym e) h
-
-pub same_line : (line l : List ℕ) → words_of line ≡ words_of l → line ≡ l
-same_line line l e = sym (line_of_words line) ∙ (ap line_of e ∙ line_of_words l)
 
 -- a line with another first word is no line of the problem with this one
 pub no_problem : (word line : List ℕ) → (first_word line ≡ word → ⊥) → (x : Item) → IsProblemLine word x → words_of line ≢ item_words x
@@ -53,10 +51,6 @@ no_word_by false v w e other = refl
 no_word : (v w : List ℕ) → (v ≡ w → ⊥) → bytes_eq v w ≡ false
 no_word v w other = no_word_by (bytes_eq v w) v w refl other
 
-pub neither : (a b : Bool) → (a || b) ≡ false → (a ≡ false) × (b ≡ false)
-neither true b e = absurd (cc)
-neither false b e = (refl, e)
-
 pub second : (a b : Bool) → (a || b) ≡ true → a ≡ false → b ≡ true
 second true b e f = absurd (cc)
 second false b e f = e
@@ -79,7 +73,7 @@ leaves_at p line d e into only = record {
 
 pub leaves : (place : FrontDue) (p : Position) (line : List ℕ) → p.due ≡ due_of place → takes place line ≡ false → LeavesAnswers p line
 leaves front.Agents p line e none =
-    let both = neither _ _ none in
+    let both = both_false _ _ none in
     leaves_at p line due.Agents e (λ x h. inr (inr h)) (λ x h w. answer_on p line x (other_word _ _ both.0) (other_word _ _ both.1) h w)
 leaves front.Asks p line e none = leaves_at p line due.Asks e (λ x h. inr h) (λ x h w. answer_of p line x (other_word _ _ none) h w)
 leaves place p line e none = absurd (cc)

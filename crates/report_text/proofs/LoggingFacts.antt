@@ -2,6 +2,7 @@
 use Rattle.std.proofs.Common.{◌≡◌, ◌≢◌, ℕ, ◌+◌, ◌<◌, ◌≤◌, ◌==◌, nat_le, nat_lt, ◌&&◌, inl, inr, Bool, true, false, List, [], ◌∷◌, ◌++◌, length, map, take, drop, get_or, refl, ap, sym, subst, ◌∙◌, arith, length-append, length-drop, add-one, drop-cons, suc, Ok, Err, Result, Option, Some}
 use Rattle.std.specs.Prelude.{IsTrue, ◌↔◌, slice_get, unwrap_or}
 use Rattle.std.proofs.lemmas.Bool.Decides.{nat_tests}
+use Rattle.report_words.proofs.Numerals.{both_true}
 use Rattle.report_words.proofs.Spelling.{line_at}
 use Rattle.clause_store.specs.Lits.{has, negated}
 use Rattle.clause_store.specs.Refutes.{Refutes}
@@ -32,7 +33,7 @@ use Rattle.report_lines.specs.declared.kinds.RefusedKind.TheVariants as refused
 use Rattle.report_lines.specs.ClaimsDue.{DueClaim}
 use Rattle.report_lines.specs.Items.{Item, MainLine, LogLine, ShownLine, EndLine, item_words}
 use Rattle.report_lines.specs.Places.{Position, DueAt, IsProofLine, main_at, end_number}
-use Rattle.report_lines.specs.Holding.{holds, stored_main, known_at, refutes, is_end}
+use Rattle.report_lines.specs.Holding.{holds, stored_main, known_at, refutes}
 use Rattle.report_lines.specs.Following.{after, noted}
 use Rattle.report_lines.specs.Judged.{IsRightAs, IsWrongAs, absent, faulty}
 use Rattle.report_text.specs.declared.stop.LineStop.{LineStop}
@@ -168,14 +169,6 @@ module _ (s : Logging) (p : Position) (h : StandsAtLog s p) where
 
   -- the end
 
-  pub end_holds : (t : Bool) → t ≡ is_end s.kind p → (n : ℕ) → holds p (EndLine n) ≡ t
-  end_holds t e n = ap (λ (k : Kind). is_end k p) h.kind ∙ sym e
-
-  pub spent_is : is_spent s.conflicts (main_in s) (steps_in s) ≡ is_spent p.conflicts (stored_main p) p.steps
-  spent_is =
-      ap (λ (b : ℕ). is_spent b (main_in s) (steps_in s)) (sym h.conflicts)
-      ∙ (ap (λ (m : List (List Lit)). is_spent p.conflicts m (steps_in s)) (sym h.main) ∙ ap (λ (ns : List Noted). is_spent p.conflicts (stored_main p) ns) (sym h.steps))
-
   pub due_end : claims_in s ≡ [] → IsProofLine p.claims p.kind (EndLine (end_number s.kind))
   due_end e =
       subst (λ (k : Kind). IsProofLine p.claims p.kind (EndLine (end_number k))) h.kind
@@ -218,13 +211,9 @@ refutes_all : (c lits : List Lit) → Refutes c lits → refutes c lits ≡ true
 refutes_all [] lits h = refl
 refutes_all (l ∷ c) lits h = rw (h.0) (refutes_all c lits h.1)
 
-both : (a b : Bool) → (a && b) ≡ true → (a ≡ true) × (b ≡ true)
-both true b e = (refl, e)
-both false b e = absurd (cc)
-
-all_refute : (c lits : List Lit) → refutes c lits ≡ true → Refutes c lits
+pub all_refute : (c lits : List Lit) → refutes c lits ≡ true → Refutes c lits
 all_refute [] lits e = tt
-all_refute (l ∷ c) lits e = let t = both (has (negated l) lits) (refutes c lits) e in (t.0, all_refute c lits t.1)
+all_refute (l ∷ c) lits e = let t = both_true (has (negated l) lits) (refutes c lits) e in (t.0, all_refute c lits t.1)
 
 refutes_by : (b : Bool) (c lits : List Lit) → IsTrue b ↔ Refutes c lits → (t : Bool) → refutes c lits ≡ t → b ≡ t
 refutes_by true c lits h true e = refl

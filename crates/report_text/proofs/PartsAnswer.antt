@@ -1,12 +1,12 @@
 -- The answer of a report, from its first line on.
-use Rattle.std.proofs.Common.{◌≡◌, ℕ, nat_lt, Bool, true, false, ◌||◌, inl, inr, List, [], ◌∷◌, ◌++◌, length, None, Some, refl, ap, sym, subst, ◌∙◌, append_assoc}
+use Rattle.std.proofs.Common.{◌≡◌, ℕ, nat_lt, Bool, true, inl, inr, List, [], ◌∷◌, ◌++◌, length, None, Some, refl, ap, sym, subst, ◌∙◌, append_assoc}
 use Rattle.std.specs.Prelude.{All}
 use Rattle.std.specs.List.{AllZip, AllByRecursion}
 use Rattle.std.proofs.lemmas.List.{length-map}
 use Rattle.std.proofs.lemmas.List.Elements.{All-from_recursion}
 use Rattle.std.proofs.lemmas.Slice.Eq.{bytes_eq-Decides}
 use Rattle.std.proofs.lemmas.Slice.Zip.{AllZip-long}
-use Rattle.clause_store.proofs.Truths.{and_left, and_right}
+use Rattle.clause_store.proofs.Truths.{and_left, and_right, or_right}
 use Rattle.formulas.specs.Formulas as formulas
 use Rattle.merge_model.specs.declared.agent.Agent.{Agent}
 use Rattle.merge_model.specs.declared.answer.Answer.{Answer}
@@ -60,10 +60,6 @@ pub record Answered (last : Kind) (s : Setting) (xs : List Item) : Type 0 where
   pub fits : AnswerFits s answer
   pub witnessed : WitnessedBy s answer
 
-or_last : (a b : Bool) → b ≡ true → (a || b) ≡ true
-or_last true b e = refl
-or_last false b e = e
-
 merged_items : (shown : Shown) (measure : List ℕ) (verdicts : List Verdict) (xs tail : List Item) → xs ≡ MeasureLine measure ∷ (verdict_items 0 verdicts ++ tail) → shown_items shown ++ xs ≡ answer_items (Merged shown measure verdicts) ++ tail
 merged_items shown measure verdicts xs tail e = ap (λ (ys : List Item). shown_items shown ++ ys) e
 
@@ -112,7 +108,7 @@ module _ (s : Setting) where
       let first : List DueClaim = of_first (lack_of TheConstraint) ∷ [] in
       let l2 : LeadsTo p (NoModelLine TheConstraint) m = subst (λ (y : Item). LeadsTo p y m) h l in
       let r2 : Run (naming s (due_named s 0) 0 first) xs end = subst (λ (n : Position). Run n xs end) l2.1 r in
-      let v : NamedRest end.kind s 0 first (profile_in s).bases xs = named_rest s (profile_in s).bases 0 end refl over first xs (or_last (nat_lt 0 (length s.draft.agents)) true refl) r2 in
+      let v : NamedRest end.kind s 0 first (profile_in s).bases xs = named_rest s (profile_in s).bases 0 end refl over first xs (or_right (nat_lt 0 (length s.draft.agents)) true refl) r2 in
       let long : length v.entries ≡ length (profile_in s).bases = AllZip-long (IsWitnessedEntry (length s.draft.atoms)) (profile_in s).bases v.entries v.witnessed in
       record {
         answer = Inconsistent None v.entries;

@@ -1,13 +1,15 @@
 -- The log of a report, the proofs of its claims, and its end.
-use Rattle.std.proofs.Common.{◌≡◌, ℕ, zero, suc, ◌+◌, ◌<◌, ◌≤◌, ◌==◌, nat_lt, nat_le, Bool, true, false, not, ◌&&◌, ◌||◌, List, [], ◌∷◌, ◌++◌, length, map, drop, Option, None, Some, ◌⊎◌, inl, inr, refl, ap, sym, subst, ◌∙◌, append_assoc, append-nil, length-append, arith}
+use Rattle.std.proofs.Common.{◌≡◌, ℕ, ◌+◌, ◌<◌, ◌≤◌, ◌==◌, nat_lt, nat_le, Bool, true, false, not, ◌&&◌, List, [], ◌∷◌, ◌++◌, length, map, drop, Option, None, Some, ◌⊎◌, inl, inr, refl, ap, sym, subst, ◌∙◌, append_assoc, append-nil, length-append, arith}
 use Rattle.std.specs.Prelude.{slice_get, is_none}
 use Rattle.std.specs.List.{AllZip, AllByRecursion, list_all}
 use Rattle.std.proofs.lemmas.Bool.Decides.{nat_tests}
 use Rattle.std.proofs.lemmas.List.{map-append}
+use Rattle.std.proofs.lemmas.Bool.{not-true}
 use Rattle.clause_store.specs.declared.lit.Lit.{Lit}
-use Rattle.clause_store.specs.Lits.{sorted_clause, has, negated}
+use Rattle.clause_store.specs.Lits.{sorted_clause}
 use Rattle.clause_store.specs.Clauses.{clause_at}
 use Rattle.clause_store.specs.Refutes.{Refutes}
+use Rattle.clause_store.proofs.Numbered.{clause_at-within}
 use Rattle.clause_store.proofs.Truths.{and_left, and_right}
 use Rattle.report_words.specs.declared.numbers.WideLit.{WideLit}
 use Rattle.report_words.specs.Numbers.{HasNumeral, IsLiteral}
@@ -16,9 +18,10 @@ use Rattle.derivation_log.specs.declared.step.Step.{Step}
 use Rattle.derivation_log.specs.Logs.{Follows, IsSound}
 use Rattle.derivation_log.specs.StepLines.{StepLine, IsStep, IsLink, HasLine, step_line, widen, widen_link, any_big, any_big_pivot, is_big, has_big, number_limit, rises}
 use Rattle.log_checker.specs.Verdicts.{verdict_of}
+use Rattle.log_checker.proofs.Chains.{lt_true}
 use Rattle.log_lines.specs.Spending.{Noted, is_spent}
 use Rattle.log_lines.specs.Taking.{narrow, narrow_link, narrow_step, is_step}
-use Rattle.log_lines.proofs.Narrow.{follows_is}
+use Rattle.log_lines.proofs.Narrow.{follows_is, le_is}
 use Rattle.merge_encoding.specs.MainDues.{MainDue}
 use Rattle.merge_encoding.specs.Assumptions.{assumed}
 use Rattle.report_lines.specs.declared.kinds.Due.{Due}
@@ -32,7 +35,10 @@ use Rattle.report_lines.specs.Holding.{stored_main, known_at, refutes, is_end}
 use Rattle.report_lines.specs.Following.{LeadsTo, after, noted}
 use Rattle.report_lines.specs.Judged.{Run}
 use Rattle.report_lines.specs.Parts.{step_items, shown_claims, HaveLines, noted_step}
+use Rattle.report_lines.proofs.Elements.{eq_is}
 use Rattle.report_text.proofs.PartsPlaces.{over_stops}
+use Rattle.report_text.proofs.LoggingFacts.{all_refute}
+use Rattle.formula_grammar.proofs.ReadBack.{first_false, second_false}
 
 both_items : (x y : Item) (xs ys : List Item) → x ≡ y → xs ≡ ys → x ∷ xs ≡ y ∷ ys
 both_items x y xs ys e f = cc
@@ -68,28 +74,13 @@ ProvedAt q p xs = Proved q.kind (main_at p) p.conflicts p.kind p.steps p.claims 
 
 -- a proof
 
-le_is : (a b : ℕ) → nat_le a b ≡ true → a ≤ b
-le_is a b e = grind (arith, nat_tests)
-
-lt_is : (a b : ℕ) → nat_lt a b ≡ true → a < b
-lt_is a b e = grind (arith, nat_tests)
-
-there : (cs : List (List Lit)) (n : ℕ) → n < length cs → slice_get cs n ≡ Some (clause_at cs n)
-there [] n h = absurd (omega arith)
-there (c ∷ cs) zero h = refl
-there (c ∷ cs) (suc n) h = there cs n (omega arith)
-
-refutes_is : (clause assumptions : List Lit) → refutes clause assumptions ≡ true → Refutes clause assumptions
-refutes_is [] lits e = tt
-refutes_is (l ∷ ls) lits e = (and_left (has (negated l) lits) (refutes ls lits) e, refutes_is ls lits (and_right (has (negated l) lits) (refutes ls lits) e))
-
 shows_by : (from : ℕ) (cs : List (List Lit)) (lits : List Lit) (n : ℕ) → ((nat_le from n && nat_lt n (length cs)) && refutes (clause_at cs n) lits) ≡ true → ShowsIn from cs lits n
 shows_by from cs lits n e =
     let a = and_left (nat_le from n && nat_lt n (length cs)) (refutes (clause_at cs n) lits) e in (
       le_is from n (and_left (nat_le from n) (nat_lt n (length cs)) a),
       clause_at cs n,
-      there cs n (lt_is n (length cs) (and_right (nat_le from n) (nat_lt n (length cs)) a)),
-      refutes_is (clause_at cs n) lits (and_right (nat_le from n && nat_lt n (length cs)) (refutes (clause_at cs n) lits) e),
+      clause_at-within cs n (lt_true n (length cs) (and_right (nat_le from n) (nat_lt n (length cs)) a)),
+      all_refute (clause_at cs n) lits (and_right (nat_le from n && nat_lt n (length cs)) (refutes (clause_at cs n) lits) e),
     )
 
 spends_by : (k : Kind) (p : Position) → is_end k p ≡ true → SpendsAll k p.conflicts (stored_main p) p.steps
@@ -143,23 +134,8 @@ none_is : {A : Type 0} (o : Option A) → is_none o ≡ true → o ≡ None
 none_is None e = refl
 none_is (Some x) e = absurd (cc)
 
-or_left : (a b : Bool) → (a || b) ≡ false → a ≡ false
-or_left true b e = absurd (cc)
-or_left false b e = refl
-
-or_right : (a b : Bool) → (a || b) ≡ false → b ≡ false
-or_right true b e = absurd (cc)
-or_right false b e = e
-
-not_is : (a : Bool) → not a ≡ true → a ≡ false
-not_is true e = absurd (cc)
-not_is false e = refl
-
 small : (n : ℕ) → nat_le number_limit n ≡ false → n < number_limit
 small n e = grind (arith, nat_tests)
-
-eq_is : (a b : ℕ) → (a == b) ≡ true → a ≡ b
-eq_is a b e = grind (arith, nat_tests)
 
 abbrev IsVariable : ℕ → Type 0
 IsVariable v = (1 ≤ v) × (v < number_limit)
@@ -168,14 +144,14 @@ lits_line : (ls : List WideLit) → AllByRecursion IsLiteral ls → any_big ls �
 lits_line [] h e = tt
 lits_line (l ∷ ls) h e =
     let here : IsLiteral l = h.0 in
-    ((here.low, small l.var (or_left (is_big l) (any_big ls) e)), lits_line ls h.1 (or_right (is_big l) (any_big ls) e))
+    ((here.low, small l.var (first_false (is_big l) (any_big ls) e)), lits_line ls h.1 (second_false (is_big l) (any_big ls) e))
 
 pivots_line : (ls : List WideLink) → AllByRecursion IsLink ls → any_big_pivot ls ≡ false → AllByRecursion (λ link. IsVariable link.pivot.var) (map narrow_link ls)
 pivots_line [] h e = tt
 pivots_line (l ∷ ls) h e =
     let here : IsLink l = h.0 in
     let pivot : IsLiteral l.pivot = here.pivot in
-    ((pivot.low, small l.pivot.var (or_left (is_big l.pivot) (any_big_pivot ls) e)), pivots_line ls h.1 (or_right (is_big l.pivot) (any_big_pivot ls) e))
+    ((pivot.low, small l.pivot.var (first_false (is_big l.pivot) (any_big_pivot ls) e)), pivots_line ls h.1 (second_false (is_big l.pivot) (any_big_pivot ls) e))
 
 links_line : (ls : List WideLink) → AllByRecursion IsLink ls → AllByRecursion (λ link. HasNumeral link.number) (map narrow_link ls)
 links_line [] h = tt
@@ -186,9 +162,9 @@ links_line (l ∷ ls) h =
 has_line : (n : ℕ) (s : StepLine) → s.number ≡ n → IsStep s → has_big s ≡ false → HasLine n (narrow_step s)
 has_line n s same h e = record {
   number = subst HasNumeral same h.number;
-  clause = lits_line s.clause h.clause (or_left (any_big s.clause) (any_big_pivot s.chain) e);
+  clause = lits_line s.clause h.clause (first_false (any_big s.clause) (any_big_pivot s.chain) e);
   first = h.first;
-  pivots = pivots_line s.chain h.chain (or_right (any_big s.clause) (any_big_pivot s.chain) e);
+  pivots = pivots_line s.chain h.chain (second_false (any_big s.clause) (any_big_pivot s.chain) e);
   links = links_line s.chain h.chain;
 }
 
@@ -235,7 +211,7 @@ one_more last main conflicts k before claims s xs h e l =
     let e1 : (not (has_big s) && (rises s.clause && (within && right))) ≡ true = and_right (s.number == n) (not (has_big s) && (rises s.clause && (within && right))) e in
     let e2 : (rises s.clause && (within && right)) ≡ true = and_right (not (has_big s)) (rises s.clause && (within && right)) e1 in
     let e3 : (within && right) ≡ true = and_right (rises s.clause) (within && right) e2 in
-    let small_enough : has_big s ≡ false = not_is (has_big s) (and_left (not (has_big s)) (rises s.clause && (within && right)) e1) in
+    let small_enough : has_big s ≡ false = not-true (has_big s) (and_left (not (has_big s)) (rises s.clause && (within && right)) e1) in
     let follows : Follows cs step = follows_is cs step (none_is (verdict_of cs step) (and_right within right e3)) in
     let grow : known main (before ++ noted s ∷ []) ≡ cs ++ step.clause ∷ [] = known_more main before (noted s) in
     let size : length (known main (before ++ noted s ∷ [])) ≡ n + 1 = ap length grow ∙ length-append cs (step.clause ∷ []) in

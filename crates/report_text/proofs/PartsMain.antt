@@ -1,7 +1,6 @@
 -- The main line of a report and what follows it.
-use Rattle.std.proofs.Common.{◌≡◌, ℕ, ◌==◌, true, List, [], ◌∷◌, ◌++◌, length, map, refl, ap, sym, subst, ◌∙◌, append-nil, arith}
+use Rattle.std.proofs.Common.{◌≡◌, ℕ, ◌==◌, List, [], ◌∷◌, ◌++◌, length, map, refl, ap, sym, subst, ◌∙◌, append-nil, arith}
 use Rattle.std.specs.List.{AllZip, AllByRecursion}
-use Rattle.std.proofs.lemmas.Bool.Decides.{nat_tests}
 use Rattle.clause_store.specs.declared.lit.Lit.{Lit}
 use Rattle.clause_store.proofs.Truths.{and_left, and_right}
 use Rattle.report_words.specs.Numbers.{HasNumeral}
@@ -20,6 +19,7 @@ use Rattle.report_lines.specs.Holding.{stored_main}
 use Rattle.report_lines.specs.Following.{LeadsTo, after}
 use Rattle.report_lines.specs.Judged.{Run}
 use Rattle.report_lines.specs.Parts.{step_items, shown_claims, HaveLines, noted_step}
+use Rattle.report_lines.proofs.Elements.{eq_is}
 use Rattle.report_text.proofs.PartsPlaces.{Next, next}
 use Rattle.report_text.proofs.PartsLog.{stored, ShowsIn, SpendsAll, Proved, Logged, LoggedAt, log_rest}
 
@@ -36,9 +36,6 @@ pub record Tail (last : Kind) (main : MainDue) (conflicts : ℕ) (k : Kind) (cla
   pub numbers : AllByRecursion HasNumeral shown
   pub spends : SpendsAll k conflicts (stored main) (map noted_step steps)
   pub ended : last ≡ k
-
-eq_is : (a b : ℕ) → (a == b) ≡ true → a ≡ b
-eq_is a b e = grind (arith, nat_tests)
 
 noted_clauses : (steps : List Step) → map (λ (s : Noted). s.clause) (map noted_step steps) ≡ clauses_of steps
 noted_clauses [] = refl

@@ -36,8 +36,9 @@ use Rattle.report_lines.specs.Accepted.{Parts}
 use Rattle.report_lines.specs.Items.{Item, HeadLine, DistanceLine, AggregatorLine, ConflictsLine, ProblemLine, MainLine, LogLine, ShownLine, EndLine, item_line}
 use Rattle.report_lines.specs.Judged.{pieces_of}
 use Rattle.report_lines.specs.Places.{start, end_number}
-use Rattle.report_lines.specs.Parts.{Asked, items_text, kind_of_answer, verdict_items, named_item, base_items, answer_items, step_items, shown_claims, head_items, log_items, items_of, report_text, HasVerdictForm, HasShownForm, HasEntryForm, HasAnswerForm, HaveLines, HasForm, HasParts}
-use Rattle.report_lines.specs.declared.kinds.Subject.TheVariants.{TheConstraint, BaseOf}
+use Rattle.report_lines.specs.Parts.{Asked, items_text, kind_of_answer, named_item, base_items, answer_items, step_items, shown_claims, head_items, log_items, items_of, report_text, HasVerdictForm, HasShownForm, HasEntryForm, HasAnswerForm, HaveLines, HasForm, HasParts}
+use Rattle.report_lines.specs.declared.kinds.Subject.TheVariants.{TheConstraint}
+use Rattle.report_lines.proofs.OneItem.{first_words}
 use Rattle.report_text.specs.PartsLaws.{AreSame}
 use Rattle.report_text.proofs.PartsLog.{stored}
 use Rattle.report_text.proofs.PartsShown.{Setting, profile_in, values_of, ShownFits}
@@ -45,8 +46,10 @@ use Rattle.report_text.proofs.PartsVerdicts.{judging, VerdictFits}
 use Rattle.report_text.proofs.PartsAnswer.{fresh, AnswerFits}
 use Rattle.report_text.proofs.WrittenHead.{problem_feed}
 use Rattle.derivation_log.proofs.Narrow.{line_is_step}
+use Rattle.derivation_log.proofs.Readers.{cons_is}
 use Rattle.report_text.proofs.WrittenText.{HasNoFeed, are_plain, pieces_are}
-use Rattle.report_text.proofs.PartsOnly.{Same, named_feed, first_same, rest_same, same_item, answers_same}
+use Rattle.report_text.proofs.PartsOnly.{Same, first_same, rest_same, same_item, answers_same, line_tail}
+use Rattle.report_text.proofs.WrittenWhole.{answer_feed, steps_feed}
 
 -- steps
 
@@ -175,24 +178,6 @@ form_fits asked r h = record { answer = answer_fits asked r r.answer h.answer; l
 
 -- no line feed stands in a line
 
-verdicts_feed : (q : ℕ) (vs : List Verdict) → AllByRecursion HasNoFeed (verdict_items q vs)
-verdicts_feed q [] = tt
-verdicts_feed q (Yes ∷ vs) = (tt, verdicts_feed (q + 1) vs)
-verdicts_feed q (No a ∷ vs) = (tt, (tt, (tt, (tt, verdicts_feed (q + 1) vs))))
-
-bases_feed : (i : ℕ) (es : List (Option (List Bool))) → AllByRecursion HasNoFeed (base_items i es)
-bases_feed i [] = tt
-bases_feed i (a ∷ es) = (named_feed (BaseOf i) a, bases_feed (i + 1) es)
-
-answer_feed : (a : Answer) → AllByRecursion HasNoFeed (answer_items a)
-answer_feed (Merged best measure verdicts) = (tt, (tt, (tt, (tt, verdicts_feed 0 verdicts))))
-answer_feed (Inconsistent constraint agents) = (named_feed TheConstraint constraint, bases_feed 0 agents)
-answer_feed GaveUp = (tt, tt)
-
-steps_feed : (n : ℕ) (ss : List Step) → AllByRecursion HasNoFeed (step_items n ss)
-steps_feed n [] = tt
-steps_feed n (s ∷ ss) = (tt, steps_feed (n + 1) ss)
-
 proofs_feed : (cs : List DueClaim) (ns : List ℕ) (k : ℕ) → AllByRecursion HasNoFeed (proof_items cs ns k)
 proofs_feed [] ns k = (tt, tt)
 proofs_feed (c ∷ cs) [] k = (tt, tt)
@@ -247,22 +232,13 @@ no_next l ls ms h e f =
     let g : is_ac l ≡ false = subst IsNext e h in
     let x : true ≡ false = sym f ∙ g in absurd (cc)
 
-cons_lines : (l m : List ℕ) (ls ms : List (List ℕ)) → l ≡ m → ls ≡ ms → l ∷ ls ≡ m ∷ ms
-cons_lines l m ls ms e f = cc
-
-head_of : (l m : List ℕ) (ls ms : List (List ℕ)) → l ∷ ls ≡ m ∷ ms → l ≡ m
-head_of l m ls ms e = cc
-
-tail_of : (l m : List ℕ) (ls ms : List (List ℕ)) → l ∷ ls ≡ m ∷ ms → ls ≡ ms
-tail_of l m ls ms e = cc
-
 split_same : (ps qs ts us : List (List ℕ)) → all_ac ps ≡ true → all_ac qs ≡ true → IsNext ts → IsNext us → ps ++ ts ≡ qs ++ us → (ps ≡ qs) × (ts ≡ us)
 split_same [] [] ts us h k i j e = (refl, e)
 split_same [] (q ∷ qs) ts us h k i j e = absurd (no_next q (qs ++ us) ts i e (and_left (is_ac q) (all_ac qs) k))
 split_same (p ∷ ps) [] ts us h k i j e = absurd (no_next p (ps ++ ts) us j (sym e) (and_left (is_ac p) (all_ac ps) h))
 split_same (p ∷ ps) (q ∷ qs) ts us h k i j e =
-    let r = split_same ps qs ts us (and_right (is_ac p) (all_ac ps) h) (and_right (is_ac q) (all_ac qs) k) i j (tail_of p q (ps ++ ts) (qs ++ us) e) in
-    (cons_lines p q ps qs (head_of p q (ps ++ ts) (qs ++ us) e) r.0, r.1)
+    let r = split_same ps qs ts us (and_right (is_ac p) (all_ac ps) h) (and_right (is_ac q) (all_ac qs) k) i j (line_tail p q (ps ++ ts) (qs ++ us) e) in
+    (cons_is p q ps qs (first_words p q (ps ++ ts) (qs ++ us) e) r.0, r.1)
 
 agents_ac : (names : List (List ℕ)) (agents : List Agent) → all_ac (map (agent_line names) agents) ≡ true
 unfolding is_ac
@@ -294,7 +270,7 @@ answer_next GaveUp xs = refl
 
 problem_items : (ls : List (List ℕ)) → map item_line (map ProblemLine ls) ≡ ls
 problem_items [] = refl
-problem_items (l ∷ ls) = cons_lines (item_line (ProblemLine l)) l (map item_line (map ProblemLine ls)) ls (line_of_words l) (problem_items ls)
+problem_items (l ∷ ls) = cons_is (item_line (ProblemLine l)) l (map item_line (map ProblemLine ls)) ls (line_of_words l) (problem_items ls)
 
 cut_at : (ls : List (List ℕ)) (xs : List Item) → map item_line (map ProblemLine ls ++ xs) ≡ ls ++ map item_line xs
 cut_at ls xs = map-append item_line (map ProblemLine ls) xs ∙ ap (λ (ms : List (List ℕ)). ms ++ map item_line xs) (problem_items ls)

@@ -16,25 +16,23 @@ use Rattle.report_lines.specs.declared.kinds.Subject.TheVariants.{TheConstraint,
 use Rattle.report_lines.specs.Items.{Item, ModelLine, VectorLine, NearestLine, MeasureLine, VerdictLine, GaveUpLine, item_words, item_line}
 use Rattle.report_lines.specs.Places.{Position, DueAt, IsOver, IsAnswerLine, IsNamedLine}
 use Rattle.report_lines.specs.Parts.{shown_items, verdict_items, named_item, base_items, answer_items}
-use Rattle.report_lines.proofs.OneItem.{one_item}
+use Rattle.report_lines.proofs.OneItem.{one_item, first_words}
 use Rattle.report_text.proofs.WrittenText.{HasNoFeed, are_plain}
 use Rattle.report_text.proofs.PartsShown.{Setting, rank_in, ShownFits, shown_with}
 use Rattle.report_text.proofs.PartsVerdicts.{judging, VerdictFits}
 use Rattle.report_text.proofs.PartsNamed.{naming, EntryFits}
 use Rattle.report_text.proofs.PartsAnswer.{fresh, AnswerFits}
+use Rattle.report_text.proofs.WrittenWhole.{named_feed}
 
 -- items with the same lines
 abbrev pub Same : List Item → List Item → Type 0
 Same xs ys = map item_line xs ≡ map item_line ys
 
-line_head : (l m : List ℕ) (ls ms : List (List ℕ)) → l ∷ ls ≡ m ∷ ms → l ≡ m
-line_head l m ls ms e = cc
-
-line_tail : (l m : List ℕ) (ls ms : List (List ℕ)) → l ∷ ls ≡ m ∷ ms → ls ≡ ms
+pub line_tail : (l m : List ℕ) (ls ms : List (List ℕ)) → l ∷ ls ≡ m ∷ ms → ls ≡ ms
 line_tail l m ls ms e = cc
 
 pub first_same : (x y : Item) (xs ys : List Item) → Same (x ∷ xs) (y ∷ ys) → item_line x ≡ item_line y
-first_same x y xs ys e = line_head (item_line x) (item_line y) (map item_line xs) (map item_line ys) e
+first_same x y xs ys e = first_words (item_line x) (item_line y) (map item_line xs) (map item_line ys) e
 
 pub rest_same : (x y : Item) (xs ys : List Item) → Same (x ∷ xs) (y ∷ ys) → Same xs ys
 rest_same x y xs ys e = line_tail (item_line x) (item_line y) (map item_line xs) (map item_line ys) e
@@ -71,10 +69,6 @@ entry_is s (Some w) (Some v) e = cc
 
 shown_is : (w v : List Bool) (ds es : List ℕ) (ws vs : List (List Bool)) → w ≡ v → ds ≡ es → ws ≡ vs → shown_with w ds ws ≡ shown_with v es vs
 shown_is w v ds es ws vs e f g = cc
-
-pub named_feed : (s : Subject) (a : Option (List Bool)) → HasNoFeed (named_item s a)
-named_feed s None = tt
-named_feed s (Some w) = tt
 
 cons_verdicts : (v u : Verdict) (vs us : List Verdict) → v ≡ u → vs ≡ us → v ∷ vs ≡ u ∷ us
 cons_verdicts v u vs us e f = cc

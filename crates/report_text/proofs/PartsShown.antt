@@ -2,7 +2,6 @@
 use Rattle.std.proofs.Common.{◌≡◌, ℕ, ◌≤◌, ◌==◌, nat_le, Bool, true, ◌&&◌, List, [], ◌∷◌, ◌++◌, length, map, unwrap_or, refl, sym, subst, ◌∙◌, arith}
 use Rattle.std.specs.Prelude.{All, if◌then◌else◌}
 use Rattle.std.specs.List.{AllZip, AllByRecursion, list_all}
-use Rattle.std.proofs.lemmas.Bool.Decides.{nat_tests}
 use Rattle.std.proofs.lemmas.List.{length-map}
 use Rattle.std.proofs.lemmas.List.Elements.{All-from_recursion}
 use Rattle.clause_store.proofs.Truths.{and_left, and_right}
@@ -28,7 +27,9 @@ use Rattle.report_lines.specs.Places.{Position, DueAt, IsOver, atoms_at, agents_
 use Rattle.report_lines.specs.Holding.{are_near, is_as_good}
 use Rattle.report_lines.specs.Following.{LeadsTo, after, due_after_verdicts}
 use Rattle.report_lines.specs.Judged.{Run}
+use Rattle.report_lines.proofs.Elements.{eq_is}
 use Rattle.report_text.proofs.PartsPlaces.{Next, next}
+use Rattle.log_lines.proofs.Narrow.{le_is}
 
 -- what is asked, and what the lines of the problem declare
 pub record Setting : Type 0 where
@@ -70,12 +71,6 @@ pub record ShownFits (atoms agents : ℕ) (shown : Shown) : Type 0 where
 
 abbrev pub shown_with : List Bool → List ℕ → List (List Bool) → Shown
 shown_with w ds ws = record { model = w; vector = ds; nearest = ws }
-
-le_is : (a b : ℕ) → nat_le a b ≡ true → a ≤ b
-le_is a b e = grind (arith, nat_tests)
-
-pub eq_is : (a b : ℕ) → (a == b) ≡ true → a ≡ b
-eq_is a b e = grind (arith, nat_tests)
 
 all_within : (top : ℕ) (ds : List ℕ) → list_all (λ d. nat_le d top) ds ≡ true → AllByRecursion (λ d. d ≤ top) ds
 all_within top [] e = tt

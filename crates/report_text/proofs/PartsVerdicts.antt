@@ -5,6 +5,7 @@ use Rattle.std.specs.List.{AllZip, AllByRecursion}
 use Rattle.std.specs.Str.{bytes_eq}
 use Rattle.std.proofs.lemmas.Bool.Decides.{nat_tests}
 use Rattle.std.proofs.lemmas.Slice.Eq.{bytes_eq-Decides}
+use Rattle.std.proofs.lemmas.Bool.{not-true}
 use Rattle.clause_store.proofs.Truths.{and_left, and_right}
 use Rattle.formulas.specs.declared.formula.Formula.{Formula}
 use Rattle.formulas.specs.declared.formula.Formula as formula
@@ -28,6 +29,7 @@ use Rattle.report_lines.specs.Parts.{shown_items, verdict_items}
 use Rattle.report_text.proofs.PartsPlaces.{Next, next, first_is}
 use Rattle.report_text.proofs.PartsMain.{Tail, main_rest}
 use Rattle.report_text.proofs.PartsShown.{Setting, profile_in, op_in, main_in, values_of, rank_in, ShownFits, shown_with, Block, shown_rest}
+use Rattle.log_checker.proofs.Chains.{true_lt}
 
 -- the place before a verdict or the main line
 abbrev pub judging : Setting → Due → ℕ → List Bool → List ℕ → List ℕ → List DueClaim → Position
@@ -83,16 +85,13 @@ cons_tail a b xs ys e = cc
 is_within : (q n k : ℕ) → suc k ≡ n - q → q < n
 is_within q n k e = omega arith
 
-lt_true : (q n : ℕ) → q < n → nat_lt q n ≡ true
-lt_true q n h = grind (arith, nat_tests)
-
 pub splits : {A : Type 0} (xs : List A) (q : ℕ) (y : A) (ys : List A) (d : A) → y ∷ ys ≡ drop q xs → Splits xs q y ys d
 splits xs q y ys d e =
     let n : suc (length ys) ≡ length xs - q = ap length e ∙ length-drop q xs in
     let lt : q < length xs = is_within q (length xs) (length ys) n in
     let cut : drop q xs ≡ get_or xs q d ∷ drop (q + 1) xs = rw add-one (drop-cons xs q d lt) in
     let both : y ∷ ys ≡ get_or xs q d ∷ drop (q + 1) xs = e ∙ cut in
-    record { within = lt_true q (length xs) lt; here = sym (cons_head y (get_or xs q d) ys (drop (q + 1) xs) both); rest = cons_tail y (get_or xs q d) ys (drop (q + 1) xs) both }
+    record { within = true_lt q (length xs) lt; here = sym (cons_head y (get_or xs q d) ys (drop (q + 1) xs) both); rest = cons_tail y (get_or xs q d) ys (drop (q + 1) xs) both }
 
 more_not_zero : (q : ℕ) → (q + 1 == 0) ≡ false
 more_not_zero q = grind (arith, nat_tests)
@@ -100,10 +99,6 @@ more_not_zero q = grind (arith, nat_tests)
 or_right : (a b : Bool) → a ≡ false → (a || b) ≡ true → b ≡ true
 or_right true b e h = absurd (cc)
 or_right false b e h = h
-
-not_is : (a : Bool) → not a ≡ true → a ≡ false
-not_is true e = absurd (cc)
-not_is false e = refl
 
 module _ (s : Setting) (best : List ℕ) where
   abbrev Rest : Position → ℕ → List DueClaim → List Formula → List Item → Type 0
@@ -139,7 +134,7 @@ module _ (s : Setting) (best : List ℕ) where
   broken q f w here e =
       let n : q + 1 - 1 ≡ q = omega arith in
       let h : not (formulas.holds (ask_at s.draft.asks (q + 1 - 1)) w) ≡ true = or_right (q + 1 == 0) (not (formulas.holds (ask_at s.draft.asks (q + 1 - 1)) w)) (more_not_zero q) e in
-      sym (ap (λ (g : Formula). formulas.holds g w) here) ∙ (ap (λ (k : ℕ). formulas.holds (ask_at s.draft.asks k) w) (sym n) ∙ not_is (formulas.holds (ask_at s.draft.asks (q + 1 - 1)) w) h)
+      sym (ap (λ (g : Formula). formulas.holds g w) here) ∙ (ap (λ (k : ℕ). formulas.holds (ask_at s.draft.asks k) w) (sym n) ∙ not-true (formulas.holds (ask_at s.draft.asks (q + 1 - 1)) w) h)
 
   as_good : (q : ℕ) (ds : List ℕ) → ((q + 1 == 0) || bytes_eq (rank_in s ds) (rank_in s best)) ≡ true → rank_in s best ≡ rank_in s ds
   as_good q ds e = sym ((bytes_eq-Decides (rank_in s ds) (rank_in s best)).0 (or_right (q + 1 == 0) (bytes_eq (rank_in s ds) (rank_in s best)) (more_not_zero q) e))

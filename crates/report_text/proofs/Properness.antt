@@ -10,10 +10,11 @@ use Rattle.merge_encoding.specs.Claims.{Assertion, NoModelOfConstraint, NoModelO
 use Rattle.merge_encoding.specs.MainDues.{MainDue, IsMain}
 use Rattle.merge_encoding.specs.Named.{values_named}
 use Rattle.merge_encoding.proofs.Same.{IsProperOf, proper_in}
+use Rattle.merge_encoding.proofs.Signs.{fit_length}
 use Rattle.report_lines.specs.ClaimsDue.{DueClaim}
 use Rattle.report_lines.specs.Places.{Position, profile_at, top_at, values_at, atoms_at}
 use Rattle.report_lines.proofs.Truths.{shared_size}
-use Rattle.report_lines.proofs.Witnesses.{away_size, fit_long}
+use Rattle.report_lines.proofs.Witnesses.{away_size}
 use Rattle.report_text.specs.Answering.{IsProperAt, AreProperAt, IsVectorAt}
 
 below : (xs : List ℕ) (j : ℕ) → 1 ≤ slice_index xs j → j < length xs
@@ -36,7 +37,7 @@ module _ (p : Position) (main : MainDue) (m : IsMain (dist_named p.distance p.dr
       (within, h.1, h.2, omega (arith, away_size (top_at p) main.copies i m.counters_sized within, h.3))
   proper_of (NoBetter j values) h =
       let fits = fit values h.0 h.1 in
-      (omega (arith, below values j h.2, fit_long values main.levels fits), fits, h.2)
+      (omega (arith, below values j h.2, fit_length values main.levels fits), fits, h.2)
   proper_of (NoBreaker q values) h = (omega (arith, m.asks_size, h.2), fit values h.0 h.1)
   proper_of (NoModelWith values prefix) h = absurd h
 

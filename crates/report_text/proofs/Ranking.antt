@@ -1,7 +1,6 @@
 -- Full vectors may be ranked.
-use Rattle.std.proofs.Common.{◌≡◌, ℕ, ◌≤◌, List, [], ◌∷◌, length, map, sum_by, sym, ap, subst, ◌∙◌, arith, All}
-use Rattle.std.proofs.lemmas.List.Elements.{All-head, All-weaker}
-use Rattle.std.proofs.lemmas.List.Sums.{sum_by-cons}
+use Rattle.std.proofs.Common.{◌≡◌, ℕ, ◌≤◌, List, length, map, sum_by, sym, ap, subst, ◌∙◌, arith, All}
+use Rattle.std.proofs.lemmas.List.Elements.{All-weaker}
 use Rattle.formulas.specs.Names.{AtomList}
 use Rattle.ranks.specs.Limits.{distance_limit, entry_limit}
 use Rattle.merge_model.specs.declared.agent.Agent.{Agent}
@@ -10,11 +9,7 @@ use Rattle.merge_model.specs.declared.operator.DistanceName.TheVariants.{Drastic
 use Rattle.merge_model.specs.declared.problem.Problem.{Problem}
 use Rattle.merge_model.specs.Answers.{most_named}
 use Rattle.merge_model.specs.Merging.{repeated}
-use Rattle.merge_model.proofs.Fulls.{repeated_length, repeated_small}
-
-some_times : (agents : List Agent) → 1 ≤ length agents → All (λ agent. 1 ≤ agent.times) agents → 1 ≤ sum_by (λ agent. agent.times) agents
-some_times [] some counts = absurd (omega arith)
-some_times (agent ∷ agents) some counts = omega (arith, sum_by-cons (λ agent. agent.times) agent agents, All-head (λ agent. 1 ≤ agent.times) agent agents counts)
+use Rattle.merge_model.proofs.Fulls.{repeated_length, repeated_small, some_times}
 
 top_few : (d : DistanceName) (atoms : AtomList) → length atoms ≤ 32 → most_named d atoms (length atoms) ≤ distance_limit
 top_few Drastic atoms h = omega arith

@@ -1,5 +1,5 @@
 -- Vectors and measures of lines.
-use Rattle.std.proofs.Common.{◌≡◌, ℕ, ◌<◌, ◌&&◌, Bool, true, false, nat_le, nat_lt, if◌then◌else◌, List, ◌∷◌, length, map, codes, decimal, refl, sym, ap, subst, ◌∙◌, arith, Result}
+use Rattle.std.proofs.Common.{◌≡◌, ℕ, ◌<◌, Bool, true, false, nat_le, nat_lt, if◌then◌else◌, List, ◌∷◌, length, map, codes, decimal, refl, sym, ap, subst, ◌∙◌, arith, Result}
 use Rattle.std.specs.List.{AllByRecursion, list_all}
 use Rattle.std.specs.Str.{bytes_eq}
 use Rattle.std.proofs.lemmas.Bool.{ltb-true}
@@ -17,9 +17,6 @@ use Rattle.report_text.specs.Answering.{position_of, FitsAt, IsMeasured}
 use Rattle.report_text.specs.Judging.{JudgedAs}
 use Rattle.report_text.specs.Taking.{Takes}
 use Rattle.report_text.proofs.Unions.{taken}
-
-pub front_false : (a b : Bool) → a ≡ false → (a && b) ≡ false
-front_false a b e = ap (λ x. x && b) e
 
 pub same_all : (t u : ℕ) (xs ys : List ℕ) (b : Bool) → t ≡ u → xs ≡ ys → list_all (λ d. nat_le d t) xs ≡ b → list_all (λ d. nat_le d u) ys ≡ b
 same_all t u xs ys b p q h = sym (ap (λ n. list_all (λ d. nat_le d n) xs) p ∙ ap (λ zs. list_all (λ d. nat_le d u) zs) q) ∙ h

@@ -2,7 +2,6 @@
 use Rattle.std.proofs.Common.{◌≡◌, ◌+◌, ◌<◌, ℕ, zero, suc, List, [], ◌∷◌, ◌++◌, map, length, slice_get, Some, arith, ap, sym, ◌∙◌, refl, subst, append_assoc, append-nil}
 use Rattle.std.specs.Prelude.{codes, decimal, Bool, Option, None}
 use Rattle.std.specs.List.{flat_map, AllByRecursion, AllZip}
-use Rattle.std.proofs.lemmas.List.{length-append, length-map}
 use Rattle.std.proofs.lemmas.List.Concat.{flat_map-cons}
 use Rattle.clause_store.specs.declared.lit.Lit.{Lit}
 use Rattle.merge_model.specs.Answers.{profile_of}
@@ -12,7 +11,6 @@ use Rattle.merge_model.specs.declared.answer.Verdict.{Verdict}
 use Rattle.merge_model.specs.declared.answer.Verdict.TheVariants.{Yes, No}
 use Rattle.merge_encoding.specs.Claims.{Assertion, NoModelOfConstraint, NoModelOfBase, NoNearer, NoBetter, NoBreaker, NoModelWith}
 use Rattle.derivation_log.specs.declared.step.Step.{Step}
-use Rattle.derivation_log.specs.Logs.{Log, known_of}
 use Rattle.derivation_log.specs.StepLines.{HasLine, step_line, step_words}
 use Rattle.report_words.specs.Words.{line_of}
 use Rattle.report_lines.specs.declared.kinds.Subject.{Subject}
@@ -42,9 +40,6 @@ pub step_written : (n : ℕ) (step : Step) (old new : List ℕ) → new ≡ old 
 step_written n step old new is =
     let line = line_of (step_words (step_line n step)) in
     is ∙ append_assoc old line (codes "\n") ∙ ap (λ t. old ++ t) (sym (append-nil (line ++ codes "\n")))
-
-pub length-known : (log : Log) → length (known_of log) ≡ length log.main + length log.steps
-length-known log = simp (length-append, length-map)
 
 -- where there is an element
 pub within : {X : Type 0} (xs : List X) (k : ℕ) (x : X) → slice_get xs k ≡ Some x → k < length xs

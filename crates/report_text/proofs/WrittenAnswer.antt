@@ -33,29 +33,25 @@ use Rattle.report_lines.specs.Holding.{are_near}
 use Rattle.report_lines.specs.Following.{after}
 use Rattle.report_lines.specs.Judged.{Run}
 use Rattle.report_lines.specs.Parts.{Asked, operator_of, kind_of_answer, answer_items, verdict_items, base_items, HasShownForm, HasVerdictForm, HasEntryForm, HasAnswerForm}
+use Rattle.report_lines.proofs.Elements.{eq_same}
 use Rattle.report_text.proofs.WrittenPlaces.{Seen, unseen, place, begun, draft_of}
 use Rattle.report_text.proofs.WrittenHead.{last_due, answer_due}
+use Rattle.log_checker.proofs.Chains.{true_lt}
 
 -- tests
 
 le_true : (a b : ℕ) → a ≤ b → nat_le a b ≡ true
 le_true a b h = grind (arith, nat_tests)
 
-lt_true : (a b : ℕ) → a < b → nat_lt a b ≡ true
-lt_true a b h = grind (arith, nat_tests)
-
 not_below : (a b : ℕ) → a ≡ b → nat_lt a b ≡ false
 not_below a b e = grind (arith, nat_tests)
-
-eq_true : (a b : ℕ) → a ≡ b → (a == b) ≡ true
-eq_true a b e = grind (arith, nat_tests)
 
 not_zero : (n : ℕ) → (n + 1 == 0) ≡ false
 not_zero n = grind (arith, nat_tests)
 
 bytes_same : (xs : List ℕ) → bytes_eq xs xs ≡ true
 bytes_same [] = refl
-bytes_same (x ∷ xs) = and_both (nat_eq x x) (bytes_eq xs xs) (eq_true x x refl) (bytes_same xs)
+bytes_same (x ∷ xs) = and_both (nat_eq x x) (bytes_eq xs xs) (eq_same x x refl) (bytes_same xs)
 
 same_bytes : (xs ys : List ℕ) → xs ≡ ys → bytes_eq xs ys ≡ true
 same_bytes xs ys e = subst (λ (zs : List ℕ). bytes_eq xs zs ≡ true) e (bytes_same xs)
@@ -72,7 +68,7 @@ near n dist model (b ∷ bs) (d ∷ ds) (w ∷ ws) h e =
     let is : IsModel n b w = h.0 in
     let first : d ≡ dist model w = cc in
     let rest : ds ≡ map (dist model) ws = cc in
-    and_both (formulas.holds b w && (dist model w == d)) (are_near dist model bs ds ws) (and_both (formulas.holds b w) (dist model w == d) is.true_there (eq_true (dist model w) d (sym first))) (near n dist model bs ds ws h.1 rest)
+    and_both (formulas.holds b w && (dist model w == d)) (are_near dist model bs ds ws) (and_both (formulas.holds b w) (dist model w == d) is.true_there (eq_same (dist model w) d (sym first))) (near n dist model bs ds ws h.1 rest)
 
 false_not : (b : Bool) → b ≡ false → not b ≡ true
 false_not true e = absurd (cc)
@@ -105,13 +101,13 @@ module _ (asked : Asked) (r : Parts) where
   named_due i = if nat_lt i (length r.problem.agents) then due.Named else due.Main
 
   verdict_next : (k : ℕ) → k < length r.problem.asks → due.Verdict ≡ verdict_due k
-  verdict_next k lt = ap (λ (t : Bool). if t then due.Verdict else due.Main) (sym (lt_true k (length r.problem.asks) lt))
+  verdict_next k lt = ap (λ (t : Bool). if t then due.Verdict else due.Main) (sym (true_lt k (length r.problem.asks) lt))
 
   verdicts_over : (k : ℕ) → k ≡ length r.problem.asks → verdict_due k ≡ due.Main
   verdicts_over k e = ap (λ (t : Bool). if t then due.Verdict else due.Main) (not_below k (length r.problem.asks) e)
 
   named_next : (k : ℕ) → k < length r.problem.agents → due.Named ≡ named_due k
-  named_next k lt = ap (λ (t : Bool). if t then due.Named else due.Main) (sym (lt_true k (length r.problem.agents) lt))
+  named_next k lt = ap (λ (t : Bool). if t then due.Named else due.Main) (sym (true_lt k (length r.problem.agents) lt))
 
   named_over : (k : ℕ) → k ≡ length r.problem.agents → named_due k ≡ due.Main
   named_over k e = ap (λ (t : Bool). if t then due.Named else due.Main) (not_below k (length r.problem.agents) e)
@@ -256,7 +252,7 @@ module _ (asked : Asked) (r : Parts) where
   SomeNone claims entries = (nat_lt 0 (length claims) ≡ true) ⊎ Contains entries None
 
   some_claim : (claims : List DueClaim) (c : DueClaim) → nat_lt 0 (length (claims ++ c ∷ [])) ≡ true
-  some_claim claims c = lt_true 0 (length (claims ++ c ∷ [])) (omega (arith, length-append claims (c ∷ [])))
+  some_claim claims c = true_lt 0 (length (claims ++ c ∷ [])) (omega (arith, length-append claims (c ∷ [])))
 
   none_later : (claims : List DueClaim) (w : List Bool) (entries : List (Option (List Bool))) → SomeNone claims (Some w ∷ entries) → SomeNone claims entries
   none_later claims w entries (inl h) = inl h
@@ -265,7 +261,7 @@ module _ (asked : Asked) (r : Parts) where
 
   may_name_by : (claims : List DueClaim) (entries : List (Option (List Bool))) (i : ℕ) → SomeNone claims entries → i + 1 + length entries ≡ length r.problem.agents → (nat_lt (i + 1) (length r.problem.agents) || nat_lt 0 (length claims)) ≡ true
   may_name_by claims entries i (inl h) count = or_right (nat_lt (i + 1) (length r.problem.agents)) (nat_lt 0 (length claims)) h
-  may_name_by claims entries i (inr (k, lt, e)) count = or_left (nat_lt (i + 1) (length r.problem.agents)) (nat_lt 0 (length claims)) (lt_true (i + 1) (length r.problem.agents) (omega arith))
+  may_name_by claims entries i (inr (k, lt, e)) count = or_left (nat_lt (i + 1) (length r.problem.agents)) (nat_lt 0 (length claims)) (true_lt (i + 1) (length r.problem.agents) (omega arith))
 
   bases_run : (entries : List (Option (List Bool))) (bases : List Formula) (i : ℕ) (claims : List DueClaim) → i + length entries ≡ length r.problem.agents → ((k : ℕ) → base_at profile (i + k) ≡ slice_index_or bases k formula.Top) →
       AllZip (IsWitnessedEntry profile.atoms) bases entries → AllByRecursion (HasEntryForm r) entries → SomeNone claims entries →
@@ -310,7 +306,7 @@ module _ (asked : Asked) (r : Parts) where
       let model : IsModel profile.atoms profile.constraint w = is.constraint_entry in
       let later : SomeNone [] agents = elim is.some_none [ inl e ↦ absurd (cc) | inr c ↦ inr c ] in
       let held : (formulas.holds profile.constraint w && (nat_lt 0 (length r.problem.agents) || false)) ≡ true =
-      and_both (formulas.holds profile.constraint w) (nat_lt 0 (length r.problem.agents) || false) model.true_there (or_left (nat_lt 0 (length r.problem.agents)) false (lt_true 0 (length r.problem.agents) (let some = r.problem.limits.some_agent in omega arith))) in
+      and_both (formulas.holds profile.constraint w) (nat_lt 0 (length r.problem.agents) || false) model.true_there (or_left (nat_lt 0 (length r.problem.agents)) false (true_lt 0 (length r.problem.agents) (let some = r.problem.limits.some_agent in omega arith))) in
       let rest = bases_run agents profile.bases 0 [] (omega (arith, form.1)) same_base is.base_entries (each_of_index (HasEntryForm r) agents form.2) later in
       (rest.0, (m, answer_due r.problem.asks p (HasModelLine TheConstraint w) (inr (inl (inr (w, refl, model.size)))), (held, refl), rest.1))
 

@@ -11,6 +11,7 @@ use Rattle.clause_store.specs.declared.lit.Lit.{Lit}
 use Rattle.clause_store.specs.Lits.{positive_lit, negative_lit, rank_of, same_lit, with_lit, sorted_onto, sorted_clause}
 use Rattle.clause_store.specs.Fresh.{fresh_vars, fresh_lits}
 use Rattle.clause_store.proofs.Each.{each_append}
+use Rattle.clause_store.proofs.Packing.{each_drop, each_take}
 use Rattle.clause_translation.specs.Definition.{Definition, definition, definition_step, leaf_node, over_one, over_two, atom_lit, top_clauses, bottom_clauses, atom_clauses, not_clauses, and_clauses, or_clauses, implies_clauses, iff_clauses}
 use Rattle.totalizer.specs.Counter.{Due, leaves}
 use Rattle.totalizer.specs.Either.{lifts, either_due}
@@ -44,16 +45,6 @@ AllVarsUpTo v xss = AllByRecursion (VarsUpTo v) xss
 each_more : {X : Type 0} (P Q : X → Type 0) → ((x : X) → P x → Q x) → (xs : List X) → AllByRecursion P xs → AllByRecursion Q xs
 each_more P Q f [] h = tt
 each_more P Q f (x ∷ xs) h = (f x h.0, each_more P Q f xs h.1)
-
-each_take : {X : Type 0} (P : X → Type 0) (n : ℕ) (xs : List X) → AllByRecursion P xs → AllByRecursion P (take n xs)
-each_take P zero xs h = tt
-each_take P (suc n) [] h = tt
-each_take P (suc n) (x ∷ xs) h = (h.0, each_take P n xs h.1)
-
-each_drop : {X : Type 0} (P : X → Type 0) (n : ℕ) (xs : List X) → AllByRecursion P xs → AllByRecursion P (drop n xs)
-each_drop P zero xs h = h
-each_drop P (suc n) [] h = tt
-each_drop P (suc n) (x ∷ xs) h = each_drop P n xs h.1
 
 up_more : (v w : ℕ) → v ≤ w → (ls : List Lit) → UpTo v ls → UpTo w ls
 up_more v w le ls h = each_more (λ (l : Lit). l.var ≤ v) (λ (l : Lit). l.var ≤ w) (λ l x. omega arith) ls h

@@ -1,11 +1,11 @@
 -- A step that follows from sorted clauses over some variables is right on its line.
-use Rattle.std.proofs.Common.{◌≡◌, ℕ, ◌+◌, ◌≤◌, true, false, cond, ◌&&◌, List, [], ◌∷◌, length, None, refl, ap, subst, ◌∙◌, arith}
+use Rattle.std.proofs.Common.{◌≡◌, ℕ, ◌≤◌, true, false, cond, List, [], ◌∷◌, length, None, refl, ap, subst, ◌∙◌, arith}
 use Rattle.std.specs.Prelude.{nat_le}
 use Rattle.std.specs.List.{AllByRecursion}
 use Rattle.std.proofs.lemmas.Option.{slice_get_within}
 use Rattle.std.proofs.lemmas.Bool.Decides.{nat_tests}
 use Rattle.clause_store.specs.declared.lit.Lit.{Lit}
-use Rattle.clause_store.specs.Lits.{negated, has, same_lit, without, joined, resolvent, Ascends}
+use Rattle.clause_store.specs.Lits.{negated, same_lit, without, joined, resolvent, Ascends}
 use Rattle.clause_store.specs.Clauses.{clause_at}
 use Rattle.clause_store.proofs.Each.{each_at}
 use Rattle.clause_store.proofs.Lits.{Ascends-resolvent}
@@ -16,8 +16,8 @@ use Rattle.derivation_log.specs.declared.step.Step.{Step}
 use Rattle.derivation_log.specs.Logs.{Comes, Follows}
 use Rattle.derivation_log.specs.StepLines.{HasLine, step_line}
 use Rattle.derivation_log.proofs.Narrow.{ascends_rises, step_small}
-use Rattle.log_checker.specs.Verdicts.{Ends, chain_from, verdict_of}
-use Rattle.log_checker.proofs.Chains.{AllBelow, below_step, verdict_ends, same_yes}
+use Rattle.log_checker.specs.Verdicts.{chain_from, verdict_of}
+use Rattle.log_checker.proofs.Chains.{below_step, verdict_ends, same_yes, chain_comes}
 use Rattle.log_lines.specs.Taking.{is_step}
 use Rattle.log_lines.proofs.Narrow.{are_in, right}
 use Rattle.report_text.proofs.WrittenRange.{UpTo, AreUpTo, with_up}
@@ -55,14 +55,6 @@ pub follows_ascend : (known : List (List Lit)) (s : Step) → AllByRecursion Asc
 follows_ascend known s h f = comes_ascend known f.0 s.chain s.clause h (each_at Ascends known s.first f.0 h f.1) f.2
 
 -- the verdict
-
-chain_comes : (known : List (List Lit)) (place : ℕ) (running : List Lit) (links : List Link) (end : List Lit) → Comes known running links end → AllBelow (length known) links × (chain_from known place running links ≡ Ends end)
-chain_comes known place running [] end h = (tt, ap (λ (x : List Lit). Ends x) h)
-chain_comes known place running (l ∷ ls) end h =
-    let r = chain_comes known (place + 1) (resolvent l.pivot running h.0) ls end h.4 in
-    let a : clause_at known l.number ≡ h.0 = clause_at-get known l.number h.0 h.1 in
-    let t : has l.pivot running && has (negated l.pivot) (clause_at known l.number) ≡ true = and_both (has l.pivot running) (has (negated l.pivot) (clause_at known l.number)) h.2 (ap (has (negated l.pivot)) a ∙ h.3) in
-    ((slice_get_within known l.number h.0 h.1, r.0), rw t (ap (λ (x : List Lit). chain_from known (place + 1) (resolvent l.pivot running x) ls) a ∙ r.1))
 
 no_verdict : (known : List (List Lit)) (s : Step) → Follows known s → verdict_of known s ≡ None
 no_verdict known s f =

@@ -8,6 +8,7 @@ use Rattle.std.proofs.lemmas.List.Concat.{flat_map-cons}
 use Rattle.std.proofs.lemmas.List.Elements.{All-from_recursion}
 use Rattle.std.proofs.lemmas.List.Folds.{list_all-append}
 use Rattle.std.proofs.lemmas.List.Splits.{slice_split_at}
+use Rattle.std.proofs.lemmas.Bool.{not-true}
 use Rattle.report_words.specs.declared.numbers.WideLit.{WideLit}
 use Rattle.report_words.specs.Numbers.{literal_word}
 use Rattle.report_words.specs.Words.{words_of, line_of, later_text}
@@ -146,13 +147,9 @@ step_clean s =
 abbrev pub has_no_feed : List ℕ → Bool
 has_no_feed line = list_all (λ b. not (eqb b 10)) line
 
-not_true : (x : Bool) → not x ≡ true → x ≡ false
-not_true true e = absurd (cc)
-not_true false e = refl
-
 no_blank : (w : List ℕ) → is_clean w ≡ true → AllByRecursion (λ b. eqb b 32 ≡ false) w
 no_blank [] h = tt
-no_blank (b ∷ w) h = (not_true (eqb b 32) (and_left (not (eqb b 32)) (not (eqb b 10)) (and_left (is_inner b) (is_clean w) h)), no_blank w (and_right (is_inner b) (is_clean w) h))
+no_blank (b ∷ w) h = (not-true (eqb b 32) (and_left (not (eqb b 32)) (not (eqb b 10)) (and_left (is_inner b) (is_clean w) h)), no_blank w (and_right (is_inner b) (is_clean w) h))
 
 no_blanks : (ws : List (List ℕ)) → are_clean ws ≡ true → AllByRecursion HasNoBlank ws
 no_blanks [] h = tt
@@ -218,7 +215,7 @@ are_plain (x ∷ xs) h = (is_plain x h.0, are_plain xs h.1)
 
 feed_free : (line : List ℕ) → has_no_feed line ≡ true → AllByRecursion (λ b. eqb b 10 ≡ false) line
 feed_free [] h = tt
-feed_free (b ∷ line) h = (not_true (eqb b 10) (and_left (not (eqb b 10)) (has_no_feed line) h), feed_free line (and_right (not (eqb b 10)) (has_no_feed line) h))
+feed_free (b ∷ line) h = (not-true (eqb b 10) (and_left (not (eqb b 10)) (has_no_feed line) h), feed_free line (and_right (not (eqb b 10)) (has_no_feed line) h))
 
 pub pieces_are : (xs : List Item) → AllByRecursion IsPlain xs → pieces_of (items_text xs) ≡ map item_line xs ++ [] ∷ []
 pieces_are [] h = refl

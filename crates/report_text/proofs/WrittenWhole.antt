@@ -42,25 +42,25 @@ use Rattle.report_text.proofs.WrittenText.{HasNoFeed, are_plain}
 
 -- no line feed stands in a line
 
-verdicts_feed : (q : ℕ) (verdicts : List Verdict) → AllByRecursion HasNoFeed (verdict_items q verdicts)
+pub verdicts_feed : (q : ℕ) (verdicts : List Verdict) → AllByRecursion HasNoFeed (verdict_items q verdicts)
 verdicts_feed q [] = tt
 verdicts_feed q (Yes ∷ verdicts) = (tt, verdicts_feed (q + 1) verdicts)
 verdicts_feed q (No shown ∷ verdicts) = (tt, (tt, (tt, (tt, verdicts_feed (q + 1) verdicts))))
 
-named_feed : (s : Subject) (entry : Option (List Bool)) → HasNoFeed (named_item s entry)
+pub named_feed : (s : Subject) (entry : Option (List Bool)) → HasNoFeed (named_item s entry)
 named_feed s None = tt
 named_feed s (Some w) = tt
 
-bases_feed : (i : ℕ) (entries : List (Option (List Bool))) → AllByRecursion HasNoFeed (base_items i entries)
+pub bases_feed : (i : ℕ) (entries : List (Option (List Bool))) → AllByRecursion HasNoFeed (base_items i entries)
 bases_feed i [] = tt
 bases_feed i (entry ∷ entries) = (named_feed (BaseOf i) entry, bases_feed (i + 1) entries)
 
-answer_feed : (answer : Answer) → AllByRecursion HasNoFeed (answer_items answer)
+pub answer_feed : (answer : Answer) → AllByRecursion HasNoFeed (answer_items answer)
 answer_feed (Merged best measure verdicts) = (tt, (tt, (tt, (tt, verdicts_feed 0 verdicts))))
 answer_feed (Inconsistent constraint agents) = (named_feed TheConstraint constraint, bases_feed 0 agents)
 answer_feed GaveUp = (tt, tt)
 
-steps_feed : (n : ℕ) (steps : List Step) → AllByRecursion HasNoFeed (step_items n steps)
+pub steps_feed : (n : ℕ) (steps : List Step) → AllByRecursion HasNoFeed (step_items n steps)
 steps_feed n [] = tt
 steps_feed n (s ∷ steps) = (tt, steps_feed (n + 1) steps)
 

@@ -7,7 +7,7 @@ use Rattle.std.proofs.lemmas.Str.Parse.{IsNumeralModel, numerals_by_fold}
 use Rattle.std.proofs.lemmas.Fmt.{digits_decimal, digits_value-decimal, decimal-digits_value, decimal_nonempty, first_decimal, decimal_digit}
 use Rattle.std.proofs.lemmas.Bool.Decides.{nat_tests}
 use Rattle.report_words.specs.declared.numbers.WideLit.{WideLit}
-use Rattle.report_words.specs.Numbers.{digits_from, number_at, literal_at, literal_word, IsLiteral, HasNumeral, signed}
+use Rattle.report_words.specs.Numbers.{digits_from, front_limit, number_at, literal_at, literal_word, IsLiteral, HasNumeral, numeral_limit, signed}
 
 abbrev pub read_on : ℕ → List ℕ → ℕ
 read_on n [] = n
@@ -29,26 +29,26 @@ pub guard_some : (b : Bool) (o : Option ℕ) (m : ℕ) → cond b o None ≡ Som
 guard_some true o m e = (refl, e)
 guard_some false o m e = absurd (cc)
 
-pub below : (n b : ℕ) → is_ascii_digit b ≡ true → nat_lt n 1000000000000000000 ≡ true → 10 * n + (b - 48) < 10 ^ 19
+pub below : (n b : ℕ) → is_ascii_digit b ≡ true → nat_lt n front_limit ≡ true → 10 * n + (b - 48) < numeral_limit
 below n b e f = grind (arith, nat_tests)
 
-pub digits_some : (n : ℕ) (bs : List ℕ) (m : ℕ) → n < 10 ^ 19 → digits_from n bs ≡ Some m → (all_ascii_digits bs ≡ true) × (read_on n bs ≡ m) × (m < 10 ^ 19)
-digits_some n [] m h e = let f : n ≡ m = cc in (refl, f, subst (λ k. k < 10 ^ 19) f h)
+pub digits_some : (n : ℕ) (bs : List ℕ) (m : ℕ) → n < numeral_limit → digits_from n bs ≡ Some m → (all_ascii_digits bs ≡ true) × (read_on n bs ≡ m) × (m < numeral_limit)
+digits_some n [] m h e = let f : n ≡ m = cc in (refl, f, subst (λ k. k < numeral_limit) f h)
 digits_some n (b ∷ bs) m h e =
-    let g = guard_some (is_ascii_digit b && nat_lt n 1000000000000000000) (digits_from (10 * n + (b - 48)) bs) m e in
-    let t = both_true (is_ascii_digit b) (nat_lt n 1000000000000000000) g.0 in
+    let g = guard_some (is_ascii_digit b && nat_lt n front_limit) (digits_from (10 * n + (b - 48)) bs) m e in
+    let t = both_true (is_ascii_digit b) (nat_lt n front_limit) g.0 in
     let r = digits_some (10 * n + (b - 48)) bs m (below n b t.0 t.1) g.1 in
     (rw (t.0, r.0) refl, r.1, r.2)
 
-pub room : (n k : ℕ) → 10 * n ≤ k → k < 10 ^ 19 → nat_lt n 1000000000000000000 ≡ true
+pub room : (n k : ℕ) → 10 * n ≤ k → k < numeral_limit → nat_lt n front_limit ≡ true
 room n k h f = grind (arith, nat_tests)
 
-pub digits_again : (n : ℕ) (bs : List ℕ) → all_ascii_digits bs ≡ true → read_on n bs < 10 ^ 19 → digits_from n bs ≡ Some (read_on n bs)
+pub digits_again : (n : ℕ) (bs : List ℕ) → all_ascii_digits bs ≡ true → read_on n bs < numeral_limit → digits_from n bs ≡ Some (read_on n bs)
 digits_again n [] e h = refl
 digits_again n (b ∷ bs) e h =
     let t = both_true (is_ascii_digit b) (all_ascii_digits bs) e in
     let g = grows (10 * n + (b - 48)) bs in
-    let l : nat_lt n 1000000000000000000 ≡ true = room n (read_on (10 * n + (b - 48)) bs) (omega arith) h in
+    let l : nat_lt n front_limit ≡ true = room n (read_on (10 * n + (b - 48)) bs) (omega arith) h in
     rw (t.0, l) (digits_again (10 * n + (b - 48)) bs t.1 h)
 
 pub guard_none : (b : Bool) (o : Option ℕ) (m : ℕ) → cond b None o ≡ Some m → (b ≡ false) × (o ≡ Some m)
@@ -69,10 +69,10 @@ test_false b h = grind (arith, nat_tests)
 pub numeral_again : (w : List ℕ) (n : ℕ) → HasNumeral n → all_ascii_digits w ≡ true → read_on 0 w ≡ n → 0 < length w → (get_or w 0 0 ≡ 48 → length w ≡ 1) → number_at w ≡ Some n
 unfolding number_at
 numeral_again [] n h d v some one = absurd (omega arith)
-numeral_again (b ∷ []) n h d v some one = digits_again 0 (b ∷ []) d (subst (λ k. k < 10 ^ 19) (sym v) h) ∙ ap Some v
+numeral_again (b ∷ []) n h d v some one = digits_again 0 (b ∷ []) d (subst (λ k. k < numeral_limit) (sym v) h) ∙ ap Some v
 numeral_again (b ∷ c ∷ bs) n h d v some one =
     let f : (b == 48) ≡ false = test_false b (λ z. let two : length (b ∷ c ∷ bs) ≡ 1 = one z in omega arith) in
-    rw f (digits_again 0 (b ∷ c ∷ bs) d (subst (λ k. k < 10 ^ 19) (sym v) h) ∙ ap Some v)
+    rw f (digits_again 0 (b ∷ c ∷ bs) d (subst (λ k. k < numeral_limit) (sym v) h) ∙ ap Some v)
 
 pub number_found : (w : List ℕ) (n : ℕ) → number_at w ≡ Some n → (w ≡ decimal n) × HasNumeral n
 unfolding number_at

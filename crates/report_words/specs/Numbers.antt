@@ -5,14 +5,22 @@ use Rattle.std.specs.Option.{option_and_then}
 use Rattle.std.specs.Prelude.{nat_lt}
 use Rattle.report_words.specs.declared.numbers.WideLit.{WideLit}
 
+-- a number has a numeral where it is below this: at most 19 digits
+abbrev pub numeral_limit : ℕ
+numeral_limit = 10 ^ 19
+
+-- a number below this takes one digit more
+abbrev pub front_limit : ℕ
+front_limit = 1_000_000_000_000_000_000
+
 -- the number has at most 19 digits
 abbrev pub HasNumeral : ℕ → Type 0
-HasNumeral n = n < 10 ^ 19
+HasNumeral n = n < numeral_limit
 
 -- the number of the digits so far and the digits that follow
 abbrev pub digits_from : ℕ → List ℕ → Option ℕ
 digits_from n [] = Some n
-digits_from n (b ∷ bs) = if is_ascii_digit b && nat_lt n 1_000_000_000_000_000_000 then digits_from (10 * n + (b - 48)) bs else None
+digits_from n (b ∷ bs) = if is_ascii_digit b && nat_lt n front_limit then digits_from (10 * n + (b - 48)) bs else None
 
 -- the number that a word spells
 unfoldable pub number_at : List ℕ → Option ℕ

@@ -5,6 +5,9 @@ ghost use Rattle.report_words.specs.Numbers.{IsLiteral, HasNumeral, signed};
 ghost use Rattle.std.specs.Option.{option_and_then};
 ghost use Rattle.report_words.specs.declared.numbers.WideLit.{WideLit as Literal};
 
+/// A number below it takes one digit more; `front_limit` of the specs.
+const FRONT_LIMIT: u64 = 1_000_000_000_000_000_000;
+
 /// A literal as a word spells it: its number may be larger than that of any variable.
 #[derive(Clone, Copy, Debug, PartialEq, Eq)]
 pub struct WideLit {
@@ -20,7 +23,7 @@ fn digits_of(word: &[u8]) -> Option<u64>
 {
     let mut n = 0u64;
     for b in word {
-        if !b.is_ascii_digit() || n >= 1_000_000_000_000_000_000 {
+        if !b.is_ascii_digit() || n >= FRONT_LIMIT {
             return None;
         }
         n = 10 * n + (*b - b'0') as u64;

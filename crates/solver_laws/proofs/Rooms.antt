@@ -69,7 +69,7 @@ opposite v w true false g h = grind arith
 opposite v w false true g h = grind arith
 opposite v w false false g h = absurd (cc)
 
-some_same : (a b : Bool) → (let x : Option Bool = Some a in let y : Option Bool = Some b in x ≡ y) → a ≡ b
+pub some_same : (a b : Bool) → (let x : Option Bool = Some a in let y : Option Bool = Some b in x ≡ y) → a ≡ b
 some_same a b h = cc
 
 -- a literal that is false with the entry, and is not its negation, was false before
@@ -81,7 +81,7 @@ false_before es e l h n =
     ]
 
 -- a reason's other literals
-room_zero : (v : Option Bool) → room_in v ≡ 0 → v ≡ Some false
+pub room_zero : (v : Option Bool) → room_in v ≡ 0 → v ≡ Some false
 room_zero None h = absurd (omega arith)
 room_zero (Some true) h = absurd (omega arith)
 room_zero (Some false) h = refl

@@ -18,6 +18,8 @@ use Rattle.watch_lists.proofs.Parts.{upto_whole, upto_upto}
 use Rattle.solver_laws.proofs.Rooms.{room_false, room_without, contains_has, room_le, upto_extends}
 use Rattle.clause_store.proofs.Each.{each_append, each_at, each_of_index}
 use Rattle.watch_lists.proofs.Scans.{contains_all}
+use Rattle.watch_lists.proofs.Fresh.{grows_low}
+use Rattle.watch_lists.proofs.Places.{extends_at}
 use Rattle.clause_store.proofs.Numbered.{get_front, get_seam}
 
 implied_reason : (es : List Entry) (c : List Lit) (l : Lit) → Implies es c l → (has l c ≡ true) × AllByRecursion (IsFalseIn es) (without l c)
@@ -32,10 +34,6 @@ grows_justified w level es _ (More fs gs n c l q at i) j =
     let r = implied_reason gs c l i in
     ((c, at, r.0, r.1), grows_justified w level es gs q j)
 
-pub grows_upto : (w : List Attached) (level k : ℕ) (es fs : List Entry) → Grows w level es fs → k < level → upto k fs ≡ upto k es
-grows_upto w level k es _ (Same fs) h = refl
-grows_upto w level k es _ (More fs gs n c l q at i) h = let t : nat_le level k ≡ false = grind arith in rw t (grows_upto w level k es gs q h)
-
 all_cons : (P : Place → Type 0) (x : Place) (xs : List Place) → P x → All P xs → All P (x ∷ xs)
 all_cons P x xs p a zero d lt = p
 all_cons P x xs p a (suc k) d lt = a k d (omega arith)
@@ -44,13 +42,6 @@ all_front : (P : Place → Type 0) (xs ys : List Place) → All P (xs ++ ys) →
 all_front P [] ys h k d lt = absurd (omega arith)
 all_front P (x ∷ xs) ys h zero d lt = h 0 d (omega arith)
 all_front P (x ∷ xs) ys h (suc k) d lt = all_front P xs ys (λ j e l. h (suc j) e (omega arith)) k d (omega arith)
-
-grows_at : (w : List Attached) (level : ℕ) (f : List Place) (es fs : List Entry) → Grows w level es fs → ExtendsAt level f (places_of es) → ExtendsAt level f (places_of fs)
-grows_at w level f es _ (Same fs) x = x
-grows_at w level f es _ (More fs gs n c l q at i) x =
-    let r = grows_at w level f es gs q x in
-    let e : Place = record { lit = l; level = level } in
-    (e ∷ r.0, ap (λ (zs : List Place). e ∷ zs) r.1, all_cons (λ (z : Place). z.level ≡ level) e r.0 refl r.2)
 
 between : (level : ℕ) (f f' fs : List Place) → ExtendsAt level f fs → Extends f f' → Extends f' fs → ExtendsAt level f' fs
 between level f f' fs a b c =
@@ -67,8 +58,8 @@ ready_settled g w f f' n t t' r q l v a b =
       vars = r.vars;
       trail_vars = v ∙ r.trail_vars;
       justified = grows_justified w t.level t.entries t'.entries q r.justified;
-      followed = subst (λ (k : ℕ). ExtendsAt k f' (places_of t'.entries)) (sym l) (between t.level f f' (places_of t'.entries) (grows_at w t.level f t.entries t'.entries q r.followed) a b);
-      below = λ k lt. (let h : k < t.level = omega arith in subst (IsComplete w) (sym (grows_upto w t.level k t.entries t'.entries q h)) (r.below k h));
+      followed = subst (λ (k : ℕ). ExtendsAt k f' (places_of t'.entries)) (sym l) (between t.level f f' (places_of t'.entries) (extends_at w t.level f t.entries t'.entries q r.followed) a b);
+      below = λ k lt. (let h : k < t.level = omega arith in subst (IsComplete w) (sym (grows_low w t.level k t.entries t'.entries q h)) (r.below k h));
     }
 
 pub ready_opened : (g : Log) (w : List Attached) (f : List Place) (n : ℕ) (t : Trace) (l : Lit) → IsReady g w f n t → IsComplete w t.entries → f ≡ places_of t.entries → IsStacked t.level t.entries →

@@ -74,7 +74,7 @@ ups_within : (v r : ℕ) (xs : List ℕ) → 1 ≤ r → r ≤ v → AreVarsWith
 ups_within v r [] lo hi h = tt
 ups_within v r (x ∷ xs) lo hi h = ((h 0 (omega arith), ((lo, hi), tt)), ups_within v r xs lo hi (tail_within v x xs h))
 
-pos_within : (v : ℕ) (xs : List ℕ) → AreVarsWithin v xs → InRange v (map positive_lit xs)
+pub pos_within : (v : ℕ) (xs : List ℕ) → AreVarsWithin v xs → InRange v (map positive_lit xs)
 pos_within v [] h = tt
 pos_within v (x ∷ xs) h = (h 0 (omega arith), pos_within v xs (tail_within v x xs h))
 

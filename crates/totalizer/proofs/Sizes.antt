@@ -7,7 +7,7 @@ use Rattle.clause_store.proofs.Fresh.{length-fresh_vars}
 use Rattle.totalizer.specs.Counter.{Due, IsUnary, AreVarsWithin, AllUnary, AllVarsWithin, leaves, AreFresh}
 use Rattle.totalizer.specs.Total.{both_due, total_by, total_due}
 use Rattle.totalizer.proofs.FreshVars.{fresh_vars_are}
-use Rattle.totalizer.proofs.Totals.{total_grows, total_more}
+use Rattle.totalizer.proofs.Totals.{total_grows, total_more, pick_false}
 
 one_unary : (t : Bool) → t ≡ nat_lt 0 (if t then 1 else 0)
 one_unary true = refl
@@ -47,10 +47,6 @@ pub size_leaves : (xs : List ℕ) → size (leaves xs) ≡ length xs
 size_leaves [] = refl
 size_leaves (x ∷ xs) = omega (arith, size_leaves xs)
 
-if_false : (t : Bool) (x y : Due) → t ≡ false → (if t then x else y) ≡ y
-if_false true x y e = cc
-if_false false x y e = refl
-
 size_num : (f v a b s lv rv lo ro : ℕ) → lv ≤ v + f * a → lo ≡ a → rv ≤ lv + f * b → ro ≡ b → a + b ≡ s → rv + (lo + ro) ≤ v + suc f * s
 size_num f v a b s lv rv lo ro h e k g i = grind arith
 
@@ -70,7 +66,7 @@ total_size (suc f) v (p ∷ q ∷ ps) lo hi =
     let x : r.vars + (length l.outputs + length r.outputs) ≤ v + suc f * size parts = size_num f v (size (take n parts)) (size (drop n parts)) (size parts) l.vars r.vars (length l.outputs) (length r.outputs) a.0 a.1 b.0 b.1 s in
     let y : length (fresh_vars r.vars (length l.outputs + length r.outputs)) ≡ size parts = let p = a.1 in let q = b.1 in omega (arith, length-fresh_vars r.vars (length l.outputs + length r.outputs)) in
     let both : ((both_due l r).vars ≤ v + suc f * size parts) × (length (both_due l r).outputs ≡ size parts) = (x, y) in
-    subst (λ (d : Due). (d.vars ≤ v + suc f * size parts) × (length d.outputs ≡ size parts)) (sym (if_false (nat_le (length parts) 1) _ _ e)) both
+    subst (λ (d : Due). (d.vars ≤ v + suc f * size parts) × (length d.outputs ≡ size parts)) (sym (pick_false (nat_le (length parts) 1) _ _ e)) both
 
 above_one : (u x k : ℕ) → u < x → k < length (x ∷ []) → u < slice_index (x ∷ []) k
 above_one u x zero lo lt = lo
@@ -96,7 +92,7 @@ total_fresh (suc f) u v (x ∷ y ∷ xs) lo hi le h =
     let e : nat_le (length parts) 1 ≡ false = grind (arith, nat_tests) in
     let a = total_grows f v (take n parts) in
     let b = total_grows f l.vars (drop n parts) in
-    subst (λ (d : Due). AreFresh u d.vars d.outputs) (sym (if_false (nat_le (length parts) 1) _ _ e))
+    subst (λ (d : Due). AreFresh u d.vars d.outputs) (sym (pick_false (nat_le (length parts) 1) _ _ e))
     (fresh_vars_are u r.vars (r.vars + (length l.outputs + length r.outputs)) (length l.outputs + length r.outputs) (omega arith) (omega arith))
 
 -- a total of two or more parts has new outputs alone

@@ -33,7 +33,7 @@ total_fuel (suc f) (suc g) v parts h k =
           cc (l, r))
     ]
 
-pick_false : (t : Bool) (x y : Due) → t ≡ false → (if t then x else y) ≡ y
+pub pick_false : (t : Bool) (x y : Due) → t ≡ false → (if t then x else y) ≡ y
 pick_false true x y e = cc
 pick_false false x y e = refl
 

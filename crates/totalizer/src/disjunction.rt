@@ -55,7 +55,7 @@ pub fn either(alloc: Global, clauses: &mut ClauseList, vars: &[u32]) -> Result<U
     ensures err { OnErr result (Grew clauses.old clauses.new
         (either_due clauses.old.vars vars.now).clauses) }
 
-    // what the clauses mean
+    // What the clauses mean.
     ensures either { IsEither clauses.old.vars vars.now (either_due clauses.old.vars vars.now) }
 {
     let output = clauses.vars() + 1;

@@ -181,7 +181,7 @@ pub fn plus(
     ensures err { OnErr result (Grew clauses.old clauses.new
         (plus_due clauses.old.vars left.now right.now).clauses) }
 
-    // what the clauses mean
+    // What the clauses mean.
     ensures sum { IsSum clauses.old.vars left.now right.now
         (plus_due clauses.old.vars left.now right.now) }
 {
@@ -228,7 +228,7 @@ pub fn total(alloc: Global, clauses: &mut ClauseList, parts: &[Unary]) -> Result
     ensures err { OnErr result (Grew clauses.old clauses.new
         (total_due clauses.old.vars parts.now).clauses) }
 
-    // what the clauses mean
+    // What the clauses mean.
     ensures total { IsTotal clauses.old.vars parts.now (total_due clauses.old.vars parts.now) }
 {
     total_of(alloc, clauses, parts)

@@ -28,6 +28,7 @@ pub struct Watch {
     pub other: u32,
 }
 
+/// The lists of watches.
 #[derive(Drop)]
 pub struct Lists {
     /// By rank of a literal: the seat of the first watch of its list.

@@ -16,7 +16,7 @@ use itoa::Buffer;
 use merge_model::{AggregatorName, Answer, DistanceName, Problem, Shown, Verdict};
 use profile_text::write_problem;
 use report_lines::Subject;
-use report_words::{write_bytes, write_line, write_numbers, write_word, write_words};
+use report_words::{write_bytes, write_line, write_numbers, write_words};
 
 /// Appends the lines of a report that stand before its log; on `NoMemory` what was appended is a
 /// part of them from their start.

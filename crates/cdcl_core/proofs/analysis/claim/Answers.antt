@@ -9,10 +9,11 @@ use Rattle.clause_store.proofs.Numbered.{clause_at-within}
 use Rattle.derivation_log.specs.declared.step.Link.{Link}
 use Rattle.watch_lists.specs.declared.entry.Entry.{Entry}
 use Rattle.watch_lists.specs.Trace.{Attached, oldest}
+use Rattle.watch_lists.proofs.Fresh.{oldest_zero}
 use Rattle.solver_laws.specs.Ready.{IsLesson, IsBarred}
 use Rattle.cdcl_core.specs.Marked.{mark_of}
 use Rattle.cdcl_core.proofs.Walks.{at_entry, reason_within}
-use Rattle.cdcl_core.proofs.Claims.{IsClaiming, claim_end, decides_all, oldest_all, oldest_none}
+use Rattle.cdcl_core.proofs.Claims.{IsClaiming, claim_end, decides_all, oldest_all}
 use Rattle.cdcl_core.proofs.Learning.{There, added_first, there_skip, there_stays, there_step, there_end}
 use Rattle.cdcl_core.proofs.analysis.claim.Goals as goal
 
@@ -134,7 +135,7 @@ finish-requires g c v t =
     let m : List Bool = c.back.marks.marked.items in
     let k : List Lit = c.back.marks.kept.items in
     let z : c.back.left ≡ 0 = omega (arith, c.back-test.false) in
-    let o : oldest c.back.left es ≡ [] = ap (λ (n : ℕ). oldest n es) z ∙ oldest_none es in
+    let o : oldest c.back.left es ≡ [] = ap (λ (n : ℕ). oldest n es) z ∙ oldest_zero es in
     let x = subst (λ (rs : List Entry). There known w vars asked rs es c.args.first c.back.chain.items m k) o c.back.invariant.there in
     let end = there_end known w vars asked es c.args.first c.back.chain.items m k x in
     end.marks v t
@@ -149,7 +150,7 @@ returns-clause-lesson g c =
     let m : List Bool = c.back.marks.marked.items in
     let k : List Lit = c.back.marks.kept.items in
     let z : c.back.left ≡ 0 = omega (arith, c.back-test.false) in
-    let o : oldest c.back.left es ≡ [] = ap (λ (n : ℕ). oldest n es) z ∙ oldest_none es in
+    let o : oldest c.back.left es ≡ [] = ap (λ (n : ℕ). oldest n es) z ∙ oldest_zero es in
     let x = subst (λ (rs : List Entry). There known w vars asked rs es c.args.first c.back.chain.items m k) o c.back.invariant.there in
     let end = there_end known w vars asked es c.args.first c.back.chain.items m k x in
     let is : c.in_ok-finish.field-0 ≡ x.clause = c.in_ok-finish.ensures.clause ∙ end.is in
@@ -167,7 +168,7 @@ returns-clause-refutes g c =
     let m : List Bool = c.back.marks.marked.items in
     let k : List Lit = c.back.marks.kept.items in
     let z : c.back.left ≡ 0 = omega (arith, c.back-test.false) in
-    let o : oldest c.back.left es ≡ [] = ap (λ (n : ℕ). oldest n es) z ∙ oldest_none es in
+    let o : oldest c.back.left es ≡ [] = ap (λ (n : ℕ). oldest n es) z ∙ oldest_zero es in
     let x = subst (λ (rs : List Entry). There known w vars asked rs es c.args.first c.back.chain.items m k) o c.back.invariant.there in
     let end = there_end known w vars asked es c.args.first c.back.chain.items m k x in
     let is : c.in_ok-finish.field-0 ≡ x.clause = c.in_ok-finish.ensures.clause ∙ end.is in

@@ -1,9 +1,10 @@
 use Rattle.std.proofs.Common.{ℕ, List, sym, subst, true}
 use Rattle.watch_lists.specs.Trace.{Place, Attached}
 use Rattle.watch_lists.proofs.Scans.{grows_le}
+use Rattle.watch_lists.proofs.Guards.{grows_value}
+use Rattle.watch_lists.proofs.Fresh.{grows_low}
 use Rattle.solver_laws.specs.Ready.{IsReady}
-use Rattle.solver_laws.proofs.Turns.{ready_settled, decides_grows, grows_upto}
-use Rattle.cdcl_core.proofs.Askings.{value_grows}
+use Rattle.solver_laws.proofs.Turns.{ready_settled, decides_grows}
 use Rattle.cdcl_core.proofs.engine.settle.Goals as goal
 
 pub returns-clause-ready : goal.returns-clause-ready
@@ -18,7 +19,7 @@ returns-clause-ready g c =
     subst (λ (v : ℕ). IsReady c.args.log.now (g.P.Propagator.attached c.propagate.new.self) f' v c.propagate.new.trail) (sym e.vars) r1
 
 pub returns-clause-below : goal.returns-clause-below
-returns-clause-below g c k lt = grows_upto (g.P.Propagator.attached c.args.propagator.now) c.args.trail.now.level k c.args.trail.now.entries c.propagate.new.trail.entries c.propagate.ensures.grows lt
+returns-clause-below g c k lt = grows_low (g.P.Propagator.attached c.args.propagator.now) c.args.trail.now.level k c.args.trail.now.entries c.propagate.new.trail.entries c.propagate.ensures.grows lt
 
 pub returns-clause-more : goal.returns-clause-more
 returns-clause-more g c = grows_le (g.P.Propagator.attached c.args.propagator.now) c.args.trail.now.level c.args.trail.now.entries c.propagate.new.trail.entries c.propagate.ensures.grows
@@ -27,4 +28,4 @@ pub returns-clause-decides : goal.returns-clause-decides
 returns-clause-decides g c asked k d = decides_grows (g.P.Propagator.attached c.args.propagator.now) asked k c.args.trail.now.level c.args.trail.now.entries c.propagate.new.trail.entries c.propagate.ensures.grows d
 
 pub returns-clause-kept : goal.returns-clause-kept
-returns-clause-kept g c l h = value_grows (g.P.Propagator.attached c.args.propagator.now) c.args.trail.now.level c.args.trail.now.entries c.propagate.new.trail.entries l true c.propagate.ensures.grows h
+returns-clause-kept g c l h = grows_value (g.P.Propagator.attached c.args.propagator.now) c.args.trail.now.level c.args.trail.now.entries c.propagate.new.trail.entries l true c.propagate.ensures.grows h

@@ -1,9 +1,10 @@
 use Rattle.std.proofs.Common.{◌∷◌, [], ◌++◌, map, drop, drop-cons, add-one, suc, append_assoc, sym, ap, ◌∙◌}
 use Rattle.formulas.specs.Names.{are_distinct}
+use Rattle.formulas.proofs.NameViews.{distinct_more}
 use Rattle.line_tokens.specs.Lexemes.{lexeme_of}
 use Rattle.line_tokens.specs.declared.token.Token.TheVariants.{Bang}
 use Rattle.problem_lines.specs.Forms.{words_of}
-use Rattle.problem_reading.proofs.NameLists.{distinct_more, distinct_not}
+use Rattle.problem_reading.proofs.NameLists.{distinct_not}
 use Rattle.problem_reading.proofs.names.are_distinct.Goals as goal
 
 pub returns-then-has : goal.returns-then-has

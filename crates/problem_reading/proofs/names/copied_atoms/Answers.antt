@@ -1,6 +1,7 @@
 use Rattle.std.proofs.Common.{◌∷◌, [], ◌++◌, drop, add-one, suc, append_assoc, sym, ap, ◌∙◌, arith}
-use Rattle.problem_reading.proofs.NameLists.{may_follow, drop_at}
+use Rattle.problem_reading.proofs.NameLists.{may_follow}
 use Rattle.problem_reading.proofs.names.copied_atoms.Goals as goal
+use Rattle.profile_text.proofs.Pieces.{drop_at}
 
 pub add-requires-clause-name : goal.add-requires-clause-name
 add-requires-clause-name c =

@@ -1,10 +1,11 @@
 use Rattle.std.proofs.Common.{◌≡◌, ◌-◌, ◌++◌, length, ap, sym, ◌∙◌, arith, rules}
 use Rattle.std.proofs.lemmas.Option.{get_or_from_slice_get}
 use Rattle.derivation_log.specs.Logs.{known_of}
+use Rattle.derivation_log.proofs.Trims.{known_length}
 use Rattle.report_lines.specs.Parts.{items_text}
 use Rattle.report_text.specs.WritingItems.{step_entry}
 use Rattle.report_text.proofs.WritingTexts.{steps_from, next_entry, before_entry, all_entries, stopped_as}
-use Rattle.report_text.proofs.WritingProofs.{has_line, length-known, step_written, within}
+use Rattle.report_text.proofs.WritingProofs.{has_line, step_written, within}
 use Rattle.report_text.proofs.writing.write_steps.Goals as goal
 
 pub returns-in_err-step : goal.returns-in_err-step
@@ -47,5 +48,5 @@ returns c =
     let log = c.args.derivations.now in
     let first = length log.main in
     let known : c.len-number-end.result ≡ length (known_of log) = search rules in
-    all_entries step_entry first log.steps (c.loop-number.number - first) _ _ (omega (arith, length-known log)) c.loop-number.invariant
+    all_entries step_entry first log.steps (c.loop-number.number - first) _ _ (omega (arith, known_length log)) c.loop-number.invariant
     ∙ ap (λ items. c.args.into.now.items ++ items_text items) (sym (steps_from first log.steps))

@@ -5,7 +5,7 @@ use Rattle.std.proofs.Common.{ℕ, ◌≤◌, List, [], ◌∷◌, ◌++◌, len
 use Rattle.std.specs.Prelude.{◌^◌, Contains}
 use Rattle.std.proofs.lemmas.Bool.{cases_Bool}
 use Rattle.clause_store.specs.declared.lit.Lit.{Lit}
-use Rattle.derivation_log.specs.Logs.{learned_of, is_learned, clauses_of, IsSound}
+use Rattle.derivation_log.specs.Logs.{learned_of, clauses_of, IsSound}
 use Rattle.derivation_log.proofs.Steps.{clauses_append}
 use Rattle.clause_store.specs.Truth.{AreTrue}
 use Rattle.derivation_log.proofs.Sound.{log_refutes}

@@ -1,15 +1,15 @@
--- The lexicographic order of lists of numbers.
-use Rattle.std.proofs.Common.{◌≡◌, ℕ, zero, suc, ◌<◌, ◌≤◌, ◌⊎◌, inl, inr, false, List, [], ◌∷◌, length, take, refl, sym, subst, arith}
+-- The lexicographic order of lists of numbers, and places at which a list is better.
+use Rattle.std.proofs.Common.{◌≡◌, ℕ, zero, suc, ◌<◌, ◌≤◌, inl, inr, false, List, [], ◌∷◌, length, take, refl, sym, subst, arith}
+use Rattle.std.specs.Prelude.{slice_index}
 use Rattle.std.specs.Cmp.Lexicographic.{slice_cmp}
 use Rattle.std.specs.Ordering.{is_gt, nat_cmp}
 use Rattle.std.proofs.lemmas.Bool.Decides.{nat_tests}
+use Rattle.std.proofs.lemmas.Cmp.{upto, nat_list_cmp_total}
 use Rattle.merge_encoding.specs.Claims.{AreUpTo, IsBetterAt}
+use Rattle.ranks.proofs.Orders.{three}
 
 abbrev pub NotAbove : List ℕ → List ℕ → Type 0
 NotAbove us vs = is_gt (slice_cmp nat_cmp us vs) ≡ false
-
-three : (a b : ℕ) → (a < b) ⊎ ((a ≡ b) ⊎ (b < a))
-three a b = grind arith
 
 less_first : (a b : ℕ) (us vs : List ℕ) → a < b → NotAbove (a ∷ us) (b ∷ vs)
 less_first a b us vs h = grind (arith, nat_tests)
@@ -17,7 +17,7 @@ less_first a b us vs h = grind (arith, nat_tests)
 same_first : (a : ℕ) (us vs : List ℕ) → NotAbove us vs → NotAbove (a ∷ us) (a ∷ vs)
 same_first a us vs h = grind (arith, nat_tests)
 
-pub first_le : (a b : ℕ) (us vs : List ℕ) → NotAbove (a ∷ us) (b ∷ vs) → a ≤ b
+first_le : (a b : ℕ) (us vs : List ℕ) → NotAbove (a ∷ us) (b ∷ vs) → a ≤ b
 first_le a b us vs h = grind (arith, nat_tests)
 
 rest_of : (a : ℕ) (us vs : List ℕ) → NotAbove (a ∷ us) (a ∷ vs) → NotAbove us vs
@@ -91,3 +91,17 @@ kept_before (suc j) (u ∷ us) (v ∷ vals) h b =
     let same : u ≡ v = elim (three u v) [ inl l ↦ absurd (h zero (omega arith) l) | inr r ↦ (elim r [ inl e ↦ e | inr g ↦ absurd (omega (arith, b.0)) ]) ] in
     let rest = kept_before j us vals (λ i lt k. h (suc i) (omega arith) (b.0, k)) b.1 in
     cc
+
+-- nothing is better at a place whose value is 0
+pub none_below_zero : (j : ℕ) (us vals : List ℕ) → slice_index vals j ≡ 0 → IsBetterAt j us vals → ⊥
+none_below_zero j [] vals e b = b
+none_below_zero j (u ∷ us) [] e b = b
+none_below_zero zero (u ∷ us) (v ∷ vals) e b = omega arith
+none_below_zero (suc j) (u ∷ us) (v ∷ vals) e b = none_below_zero j us vals e b.1
+
+pub up_itself : (us : List ℕ) → AreUpTo us us
+up_itself [] = tt
+up_itself (u ∷ us) = (omega arith, up_itself us)
+
+pub chained : (xs ys zs : List ℕ) → NotAbove xs ys → NotAbove ys zs → NotAbove xs zs
+chained xs ys zs h k = upto nat_list_cmp_total xs ys zs h k
